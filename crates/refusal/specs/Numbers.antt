@@ -1,0 +1,7 @@
+-- The number of each refusal.
+use Prim.Native.Nat.{ℕ}
+use Rattle.refusal.specs.declared.Refusal.{Refusal}
+use Rattle.refusal.specs.declared.Refusal.the-variants.{Memory}
+
+abbrev pub number-of : Refusal → ℕ
+number-of Memory = 13
