@@ -1,0 +1,2 @@
+mod Offers
+mod Looks

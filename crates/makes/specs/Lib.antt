@@ -1,0 +1,2 @@
+pub mod Storage
+pub mod Seen

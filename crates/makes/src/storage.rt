@@ -1,0 +1,31 @@
+// What the handshake needs of a make: where its bytes are kept.
+ghost use mathlib.Core.Path.{_≡_};
+ghost use mathlib.Core.List.{List};
+ghost use Prim.Native.Nat.{ℕ, _<_, _≤_};
+ghost use lib.ListN.{length};
+ghost use Rattle.inserter.specs.Meaning.{at-place};
+ghost use Rattle.makes.specs.Storage.{Grown};
+
+pub trait Storage {
+    ghost held: { Self → ℕ → List ℕ };
+
+    ghost free: { Self → ℕ → ℕ };
+
+    // what a put does to the memory handed over, place by place
+    ghost wrote: { Self → ℕ → ℕ → ℕ → Self → Type 0 };
+
+    fn length_on(&self, channel: u8) -> u32
+        ensures { λ r. ⌜ r ≡ length (held (now (self .entry)) channel) ⌝ };
+
+    fn byte_on(&self, channel: u8, place: u32) -> Option<u8>
+        ensures { λ r. ⌜ r ≡ at-place (held (now (self .entry)) channel) place ⌝ };
+
+    fn free_on(&self, channel: u8) -> u32
+        ensures { λ r. ⌜ r ≡ free (now (self .entry)) channel ⌝ };
+
+    // The byte n times more on a channel that has the places.
+    fn put(&mut self, channel: u8, n: u32, byte: u8)
+        requires { ⌜ channel < 8 ⌝ ∗ ⌜ n ≤ free (now self) channel ⌝ }
+        ensures grown { λ _. ⌜ Grown channel n byte (held (now (self .entry))) (free (now (self .entry))) (held (now (self .exit))) (free (now (self .exit))) ⌝ }
+        ensures wrote { λ _. ⌜ wrote (now (self .entry)) channel n byte (now (self .exit)) ⌝ };
+}
