@@ -1,2 +1,5 @@
 mod Offers
 mod Looks
+mod Spreading
+mod Laning
+mod Remembered

@@ -4,7 +4,7 @@ ghost use mathlib.Core.Bool.{true, false};
 ghost use Prim.Native.Nat.{ℕ, _+_, _<_};
 ghost use lib.ListN.{drop, length};
 ghost use Rattle.inserter.specs.declared.front.Way.the-variants.{Forward, Reverse};
-ghost use Rattle.inserter.specs.Meaning.{any, lines-of, answer-of, resting};
+ghost use Rattle.inserter.specs.Meaning.{any, held-on, free-on, at-place, lines-of, answer-of, resting};
 ghost use Rattle.inserter.specs.Rules.{fits-as, rule-of, faced, showing, adds, Looked, Dropped};
 ghost use Rattle.makes.specs.Seen.{seen, Read, Stored, stores, withdrawn};
 use super::storage::Storage;
@@ -188,5 +188,23 @@ impl<S: Storage> Handshake<'_, S> {
         self.cursor = Cursor::START;
         self.front = at_rest(delay);
         self.lines()
+    }
+
+    pub fn length(&self, channel: u8) -> u32
+        ensures { λ r. ⌜ r ≡ length (held-on (seen held free (now (self .entry))) channel) ⌝ }
+    {
+        if channel < 8 { self.store.length_on(channel) } else { 0 }
+    }
+
+    pub fn byte_at(&self, channel: u8, place: u32) -> Option<u8>
+        ensures { λ r. ⌜ r ≡ at-place (held-on (seen held free (now (self .entry))) channel) place ⌝ }
+    {
+        if channel < 8 { self.store.byte_on(channel, place) } else { None }
+    }
+
+    pub fn free(&self, channel: u8) -> u32
+        ensures { λ r. ⌜ r ≡ free-on (seen held free (now (self .entry))) channel ⌝ }
+    {
+        if channel < 8 { self.store.free_on(channel) } else { 0 }
     }
 }
