@@ -1,0 +1,3 @@
+pub mod Spelling
+mod Running
+mod Cutting
