@@ -2,9 +2,7 @@
 use mathlib.Core.Path.{_≡_, refl, sym, ap, subst, _∙_, fun-ext}
 use mathlib.Core.List.{List, [], _∷_, _++_}
 use mathlib.Core.Bool.{Bool, true, false, cond, _&&_}
-use Prim.Native.Nat.{ℕ, _+_, _≤_}
-use native.Mathlib.Omega.{arith}
-use native.Mathlib.Nat.{add-zero}
+use Prim.Native.Nat.{ℕ}
 use lib.Dec.{ltb}
 use Rattle.cell.specs.declared.cells.Cell.{Cell}
 use Rattle.cell.specs.declared.cursor.Cursor.{Cursor}
@@ -17,11 +15,8 @@ use Rattle.inserter.specs.declared.front.Rule.{Rule}
 use Rattle.inserter.specs.declared.front.Rule.the-variants.{TurnForward, TurnReverse, Acknowledge, Take, Show, Release, Withdraw, Rest}
 use Rattle.inserter.specs.Meaning.{Meaning, answer-of}
 use Rattle.inserter.specs.Rules.{rule-of, faced, refaced, carried, shown-cell, takes, adds, adds-many, rest-of, Places, Looked}
+use Rattle.inserter.proofs.Quiet.{unmoved}
 use Rattle.makes.specs.Seen.{Read, Stored, stores, withdrawn}
-
--- where nothing is added no free place changes
-pub unmoved : (c : ℕ) (free : ℕ → ℕ) → Places c 0 free free
-unmoved c free = record { here = add-zero (free c); no-rise = λ k ne. omega arith; no-more = λ k ne. omega arith }
 
 level-tag : (t : Bool) → level-of (tag-at t) ≡ t
 level-tag true = refl

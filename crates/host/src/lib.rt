@@ -1,0 +1,2 @@
+// The host's side of the handshake, for an inserter of any make.
+pub mod play;
