@@ -113,7 +113,7 @@ module _ (d : ℕ) (c : Cell) (m : Meaning) where
       acks false = refl
 
 -- how many bytes a cell adds, as the rules count them
-adds-kept : (r : Cursor) (c : Cell) → cond (level-of (c .tag) && ltb (r .channel) 8) (repeats (r .count)) 0 ≡ kept-of r c
+pub adds-kept : (r : Cursor) (c : Cell) → cond (level-of (c .tag) && ltb (r .channel) 8) (repeats (r .count)) 0 ≡ kept-of r c
 adds-kept r c = by-tag (c .tag)
   where
     by-test : (e t : Bool) → e ≡ true → cond t (repeats (r .count)) 0 ≡ length (cond (e && t) (replicate (repeats (r .count)) (c .byte)) [])

@@ -1,2 +1,4 @@
 mod Giving
 mod Playing
+mod Steady
+mod Delivering

@@ -1,2 +1,3 @@
 // The host's side of the handshake, for an inserter of any make.
+pub mod deliver;
 pub mod play;

@@ -1,0 +1,15 @@
+use mathlib.Core.Path.{subst, _∙_}
+use Rattle.host.specs.Playing.{Plays}
+use Rattle.host.proofs.Delivering.{arrives, has-room}
+use Rattle.host.proofs.deliver.deliver.Needs as need
+
+pub returns : need.returns
+returns g c =
+    let d = g .I·Inserter .delay in
+    let means = g .I·Inserter .meaning in
+    let m = means (c .args .inserter .now) in
+    let channel = c .args .channel in
+    let p = c .play .result in
+    arrives d (channel .number) (c .args .text .now) (channel .kept) m (means (c .play .last .inserter)) p
+      (has-room (m .free) (channel .number) (c .number .result) (c .free .result) _ (channel .kept) (c .number .ensures) (c .free .ensures) (c .if-free-text .left))
+      (subst (λ cs. Plays d m cs (means (c .play .last .inserter)) (p .taken) (p .looks)) (c .deref .ensures .value ∙ c .in-Ok .ensures tt .cells) (c .play .ensures))
