@@ -14,9 +14,9 @@ other j k xs ne = let e : cond (eqb j k && ltb j 8) xs [] ≡ [] = grind (arith,
 
 pub all : Worked-cases
 all = record {
-    counted = record { there = refl; nowhere-else = λ j ne. other j 5 _ ne };
-    longest = record { there = refl; nowhere-else = λ j ne. other j 1 _ ne };
-    dropped = record { there = refl; nowhere-else = λ j ne. other j 1 _ ne };
-    replaced = record { there = refl; nowhere-else = λ j ne. other j 1 _ ne };
-    given-out = refl
-  }
+  counted = record { there = refl; nowhere-else = λ j ne. other j 5 _ ne };
+  longest = record { there = refl; nowhere-else = λ j ne. other j 1 _ ne };
+  dropped = record { there = refl; nowhere-else = λ j ne. other j 1 _ ne };
+  replaced = record { there = refl; nowhere-else = λ j ne. other j 1 _ ne };
+  given-out = refl;
+}

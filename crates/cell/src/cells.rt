@@ -16,7 +16,7 @@ pub struct Cell {
 }
 
 // What a cell says to whoever reads it.
-#[derive(Clone, Copy, PartialEq, Eq, Debug)]
+#[derive(Clone, Copy)]
 pub enum Kind {
     Byte(u8),
     // the next byte stands for one more than this

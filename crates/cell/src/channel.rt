@@ -7,7 +7,7 @@ ghost use Rattle.std.specs.Options.{Cases as BySome};
 ghost use Prim.Native.Nat.{_≤_};
 
 // One of the eight television channels, 0 to 7.
-#[derive(Clone, Copy, PartialEq, Eq, Debug)]
+#[derive(Clone, Copy)]
 pub struct Channel {
     number: u8,
     ghost kept: { number < 8 },
@@ -17,7 +17,11 @@ impl Channel {
     pub fn new(number: u8) -> Option<Channel>
         ensures { λ r. ⌜ BySome r (8 ≤ number) (λ c. c .number ≡ number) ⌝ }
     {
-        if number < 8 { Some(Channel { number }) } else { None }
+        if number < 8 {
+            Some(Channel { number })
+        } else {
+            None
+        }
     }
 
     pub fn number(self) -> u8

@@ -1,18 +1,25 @@
 // Where a reading of cells stands.
 ghost use mathlib.Core.Path.{_≡_};
-ghost use Rattle.cell.specs.Reading.{repeats, moved};
+ghost use Rattle.cell.specs.Reading.{start, repeats, moved};
 use super::cells::Cell;
 use super::cells::Kind;
 
-#[derive(Clone, Copy, PartialEq, Eq, Debug)]
+#[derive(Clone, Copy)]
 pub struct Cursor {
     pub channel: u8,
     pub count: Option<u8>,
 }
 
 impl Cursor {
-    // every reading begins here, on a channel whose bytes are kept nowhere
-    pub const START: Cursor = Cursor { channel: 127, count: None };
+    // Every reading begins here, on a channel whose bytes are kept nowhere.
+    pub fn start() -> Cursor
+        ensures { λ r. ⌜ r ≡ start ⌝ }
+    {
+        Cursor {
+            channel: 127,
+            count: None,
+        }
+    }
 
     // How often the next byte is added.
     pub fn repeats(self) -> u32
@@ -29,9 +36,18 @@ impl Cursor {
         ensures { λ r. ⌜ r ≡ moved self cell ⌝ }
     {
         match cell.kind() {
-            Kind::Byte(_) => Cursor { channel: self.channel, count: None },
-            Kind::Count(n) => Cursor { channel: self.channel, count: Some(n) },
-            Kind::Address(channel) => Cursor { channel, count: None },
+            Kind::Byte(_) => Cursor {
+                channel: self.channel,
+                count: None,
+            },
+            Kind::Count(n) => Cursor {
+                channel: self.channel,
+                count: Some(n),
+            },
+            Kind::Address(channel) => Cursor {
+                channel,
+                count: None,
+            },
         }
     }
 }

@@ -1,7 +1,7 @@
 // The lines of the cable. A line is true where it is high.
 
 // What the host drives.
-#[derive(Clone, Copy, PartialEq, Eq, Debug)]
+#[derive(Clone, Copy)]
 pub struct HostLines {
     // HostClk
     pub clk: bool,

@@ -6,11 +6,9 @@ ghost use Rattle.cell.specs.Laws.{Reads-in-parts, Expands-in-parts};
 pub fn parts_join()
     ensures reading { λ _. ⌜ Reads-in-parts ⌝ }
     ensures expansion { λ _. ⌜ Expands-in-parts ⌝ }
-{
-}
+{}
 
 // The worked cases, all together.
 pub fn worked_cases()
     ensures { λ _. ⌜ Worked-cases ⌝ }
-{
-}
+{}

@@ -37,17 +37,17 @@ module _ (c : ℕ) (text : List ℕ) (low : c < 8) (m m′ : Meaning) (room : le
     next-kept e =
         sym (adds-kept (m′ .cursor) (getD (text-cells text) i no-cell))
         ∙ cond-true (level-of (getD (text-cells text) i no-cell .tag) && ltb (m′ .cursor .channel) 8) (repeats (m′ .cursor .count)) 0
-          (and-from (level-of (getD (text-cells text) i no-cell .tag)) (ltb (m′ .cursor .channel) 8) (ap level-of e) (lt-ltb (m′ .cursor .channel) 8 (omega (arith, here))))
+        (and-from (level-of (getD (text-cells text) i no-cell .tag)) (ltb (m′ .cursor .channel) 8) (ap level-of e) (lt-ltb (m′ .cursor .channel) 8 (omega (arith, here))))
 
     enough : getD (text-cells text) i no-cell .tag ≡ Data → repeats (m′ .cursor .count) ≤ m′ .free c
     enough e =
         let ts = text-cells text in
         let x = getD (text-cells text) i no-cell in
         let up-to : kept (on-channel c) (take (i + 1) (text-cells text)) ≡ kept (on-channel c) (take i (text-cells text)) + (repeats (m′ .cursor .count) + 0) =
-              ap (kept (on-channel c)) (take-more ts i no-cell h) ∙ kept-++ (on-channel c) (take i ts) (x ∷ [])
-              ∙ ap (λ r. kept (on-channel c) (take i ts) + (kept-of r x + 0)) (sym at) ∙ ap (λ n. kept (on-channel c) (take i ts) + (n + 0)) (next-kept e) in
+        ap (kept (on-channel c)) (take-more ts i no-cell h) ∙ kept-++ (on-channel c) (take i ts) (x ∷ [])
+        ∙ ap (λ r. kept (on-channel c) (take i ts) + (kept-of r x + 0)) (sym at) ∙ ap (λ n. kept (on-channel c) (take i ts) + (n + 0)) (next-kept e) in
         let all : length text ≡ kept (on-channel c) (take (i + 1) (text-cells text)) + kept (reached (on-channel c) (cells (take (i + 1) (text-cells text)))) (drop (i + 1) (text-cells text)) =
-              sym (text-kept c text low) ∙ ap (kept (on-channel c)) (sym (take-append-drop (i + 1) ts)) ∙ kept-++ (on-channel c) (take (i + 1) ts) (drop (i + 1) ts) in
+        sym (text-kept c text low) ∙ ap (kept (on-channel c)) (sym (take-append-drop (i + 1) ts)) ∙ kept-++ (on-channel c) (take (i + 1) ts) (drop (i + 1) ts) in
         omega arith
 
     fits-here : (t : Tag) → getD (text-cells text) i no-cell .tag ≡ t → fits-as t m′ ≡ false → ⊥
@@ -67,14 +67,15 @@ module _ (c : ℕ) (text : List ℕ) (low : c < 8) (m m′ : Meaning) (room : le
       let ts = text-cells text in
       let a = addresses c low in
       fits-here i (omega arith) (at ∙ ap (λ κ. reached (moved-by start κ) (cells (take i ts))) a)
-        (subst (λ n. m .free c ≤ m′ .free c + n) (ap (λ κ. length (gained-by start κ 127) + kept (moved-by start κ) (take i ts)) a ∙ omega arith) places)
-        (getD ts i no-cell .tag) refl f
+      (subst (λ n. m .free c ≤ m′ .free c + n) (ap (λ κ. length (gained-by start κ 127) + kept (moved-by start κ) (take i ts)) a ∙ omega arith) places)
+      (getD ts i no-cell .tag) refl f
 
 module _ (d c : ℕ) (text : List ℕ) (low : c < 8) (m m′ : Meaning) (p : Played) (room : length text ≤ m .free c) (plays : Plays d m (caption-cells c text) m′ (p .taken) (p .looks)) where
   whole : p .taken ≡ length (caption-cells c text)
   whole = elim (cases-lt (p .taken) (length (caption-cells c text))) [
-        inl l ↦ absurd (not-stopped c text low m m′ room (p .taken) l (plays .cursor) (plays .places c) (plays .stopped l))
-      | inr l ↦ let w = plays .within in omega arith ]
+    | inl l ↦ absurd (not-stopped c text low m m′ room (p .taken) l (plays .cursor) (plays .places c) (plays .stopped l))
+    | inr l ↦ let w = plays .within in omega arith
+  ]
 
   pub arrives : Arrives d c text m m′ p
   arrives =
@@ -88,7 +89,7 @@ module _ (d c : ℕ) (text : List ℕ) (low : c < 8) (m m′ : Meaning) (p : Pla
         elsewhere = λ k ne. held k ∙ ap (λ z. m .held k ++ z) (s .nowhere-else k ne) ∙ append-nil (m .held k);
         offers = plays .offers;
         cells = whole;
-        looks = plays .looks ∙ ap (λ n. p .taken * (d + 2) + n) (cond-false (ltb (p .taken) (length cs)) (d + 1) 0 (le-ltb (p .taken) (length cs) (omega (arith, whole)))) ∙ omega arith
+        looks = plays .looks ∙ ap (λ n. p .taken * (d + 2) + n) (cond-false (ltb (p .taken) (length cs)) (d + 1) 0 (le-ltb (p .taken) (length cs) (omega (arith, whole)))) ∙ omega arith;
       }
 
 -- the room, as the code asks for it

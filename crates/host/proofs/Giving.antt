@@ -108,6 +108,7 @@ module _ (d : ℕ) (c : Cell) (m : Meaning) where
       go : (g : Bool) → cond g (acknowledging d (waiting (cond g (d - i) d))) (waiting (cond g (d - i) d)) ≡ cond g (ready d) (resting d)
       go true = cond-true (eqb (d - i) 0) _ _ (eq-eqb (d - i) 0 (omega arith))
       go false = refl
+
       acks : (g : Bool) → cond g (ready d) (resting d) .ack ≡ g
       acks true = refl
       acks false = refl
@@ -120,17 +121,20 @@ adds-kept r c = by-tag (c .tag)
     by-test true true h = sym (length-replicate (repeats (r .count)) (c .byte))
     by-test true false h = refl
     by-test false t h = absurd (false≢true h)
+
     by-kind : (t : Bool) → 0 ≡ length (gained-by r (cond t (Count (c .byte)) (Address (c .byte - 128))) (r .channel))
     by-kind true = refl
     by-kind false = refl
+
     by-tag : (t : Tag) → cond (level-of t && ltb (r .channel) 8) (repeats (r .count)) 0 ≡ kept-of r (record { byte = c .byte; tag = t })
     by-tag Data = by-test (eqb (r .channel) (r .channel)) (ltb (r .channel) 8) (eq-eqb (r .channel) (r .channel) refl)
     by-tag Command = by-kind (ltb (c .byte) 128)
 
 within : {c n : ℕ} {free free′ : ℕ → ℕ} → Places c n free free′ → (k : ℕ) → free k ≤ free′ k + n
 within {c} {n} {free} {free′} p k = elim (cases-eq k c) [
-      inl e ↦ subst (λ j. free j ≤ free′ j + n) (sym e) (omega (arith, p .here))
-    | inr ne ↦ p .no-more k ne ]
+  | inl e ↦ subst (λ j. free j ≤ free′ j + n) (sym e) (omega (arith, p .here))
+  | inr ne ↦ p .no-more k ne
+]
 
 module _ (d : ℕ) (c : Cell) (m : Meaning) (fit : fits-as (c .tag) m ≡ true) where
   -- HostClk high, once the cell is acknowledged: it is taken
@@ -141,17 +145,17 @@ module _ (d : ℕ) (c : Cell) (m : Meaning) (fit : fits-as (c .tag) m ≡ true) 
   high-look m′ r l =
       let shown : shown-cell (lines true (c .tag)) (c .byte) ≡ c = ap (λ t. record { byte = c .byte; tag = t }) (tag-level (c .tag)) in
       let s : m′ ≡ carried Take d (m′ .free) c (with m (ready d)) =
-            l .state ∙ ap (λ x. carried x d (m′ .free) (shown-cell (lines true (c .tag)) (c .byte)) (with m (ready d))) rule-high
-            ∙ ap (λ x. carried Take d (m′ .free) x (with m (ready d))) shown in
+      l .state ∙ ap (λ x. carried x d (m′ .free) (shown-cell (lines true (c .tag)) (c .byte)) (with m (ready d))) rule-high
+      ∙ ap (λ x. carried Take d (m′ .free) x (with m (ready d))) shown in
       let p : Places (m .cursor .channel) (kept-of (m .cursor) c) (m .free) (m′ .free) =
-            subst (λ n. Places (m .cursor .channel) n (m .free) (m′ .free))
-            (ap (λ x. cond (takes x && (level-of (c .tag) && ltb (m .cursor .channel) 8)) (repeats (m .cursor .count)) 0) rule-high ∙ adds-kept (m .cursor) c) (l .places) in
+      subst (λ n. Places (m .cursor .channel) n (m .free) (m′ .free))
+      (ap (λ x. cond (takes x && (level-of (c .tag) && ltb (m .cursor .channel) 8)) (repeats (m .cursor .count)) 0) rule-high ∙ adds-kept (m .cursor) c) (l .places) in
       record {
         held = λ k. ap (λ x. x .held k) s;
         cursor = ap (λ x. x .cursor) s;
         offers = ap (λ x. x .offers) s;
         front = ap (λ x. x .front) s;
-        places = within p
+        places = within p;
       }
 
 module _ (d : ℕ) (c : Cell) (m : Meaning) (r : Bool) (m₁ : Meaning) (asked : Asked d c m r m₁) where
@@ -161,7 +165,7 @@ module _ (d : ℕ) (c : Cell) (m : Meaning) (r : Bool) (m₁ : Meaning) (asked :
       let s = asked .state ∙ ap (λ g. with m (cond g (ready d) (resting d))) fit in
       record {
         answer = asked .answer;
-        gave = subst (λ g. Gave g d c m m′) (sym e) (high-look d c m fit m′ a (subst (λ x. Looked d x (lines true (c .tag)) (c .byte) m′ a) s l))
+        gave = subst (λ g. Gave g d c m m′) (sym e) (high-look d c m fit m′ a (subst (λ x. Looked d x (lines true (c .tag)) (c .byte) m′ a) s l));
       }
 
   pub kept-back : r ≡ false → m .front ≡ resting d → Given d c m r m₁
@@ -169,5 +173,5 @@ module _ (d : ℕ) (c : Cell) (m : Meaning) (r : Bool) (m₁ : Meaning) (asked :
       let fit = sym (asked .answer) ∙ e in
       record {
         answer = asked .answer;
-        gave = subst (λ g. Gave g d c m m₁) (sym e) (asked .state ∙ ap (λ g. with m (cond g (ready d) (resting d))) fit ∙ sym (with-own m (resting d) f))
+        gave = subst (λ g. Gave g d c m m₁) (sym e) (asked .state ∙ ap (λ g. with m (cond g (ready d) (resting d))) fit ∙ sym (with-own m (resting d) f));
       }

@@ -41,17 +41,17 @@ module _ (d : ℕ) (m : Meaning) (cs : List Cell) (i : ℕ) (m₁ : Meaning) (so
       let spelt : cells (take (i + 1) cs) ≡ cells (take i cs) ++ (cell (getD cs i no-cell) ∷ []) = ap cells more ∙ map-append cell (take i cs) (c ∷ []) in
       record {
         held = λ k. took .held k ∙ ap (λ z. z ++ gained (m₁ .cursor) c k) (so .held k) ∙ append-assoc (m .held k) (reading (cells (take i cs)) k) (gained (m₁ .cursor) c k)
-          ∙ ap (λ z. m .held k ++ z)
+            ∙ ap (λ z. m .held k ++ z)
             (ap (λ r. reading (cells (take i cs)) k ++ gained r c k) (so .cursor)
-              ∙ ap (λ z. reading (cells (take i cs)) k ++ z) (sym (append-nil (gained (reached start (cells (take i cs))) c k)))
-              ∙ sym (added-++ start (cells (take i cs)) (cell c ∷ []) k) ∙ ap (λ z. reading z k) (sym spelt));
+            ∙ ap (λ z. reading (cells (take i cs)) k ++ z) (sym (append-nil (gained (reached start (cells (take i cs))) c k)))
+            ∙ sym (added-++ start (cells (take i cs)) (cell c ∷ []) k) ∙ ap (λ z. reading z k) (sym spelt));
         cursor = took .cursor ∙ ap (λ r. moved r c) (so .cursor) ∙ sym (reached-++ start (cells (take i cs)) (cell c ∷ [])) ∙ ap (reached start) (sym spelt);
         offers = took .offers ∙ so .offers;
         front = took .front;
         places = λ k.
-          let n : kept start (take (i + 1) cs) ≡ kept start (take i cs) + (kept-of (m₁ .cursor) (getD cs i no-cell) + 0) =
-                ap (kept start) more ∙ kept-++ start (take i cs) (c ∷ []) ∙ ap (λ r. kept start (take i cs) + (kept-of r c + 0)) (sym (so .cursor)) in
-          omega (arith, so .places k, took .places k, n)
+            let n : kept start (take (i + 1) cs) ≡ kept start (take i cs) + (kept-of (m₁ .cursor) (getD cs i no-cell) + 0) =
+            ap (kept start) more ∙ kept-++ start (take i cs) (c ∷ []) ∙ ap (λ r. kept start (take i cs) + (kept-of r c + 0)) (sym (so .cursor)) in
+            omega (arith, so .places k, took .places k, n);
       }
 
   module _ (m₀ : Meaning) (spent : ℕ) (within : i ≤ length cs) (stopped : i < length cs → fits-as (getD cs i no-cell .tag) m₁ ≡ false)

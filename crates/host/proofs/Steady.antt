@@ -45,17 +45,20 @@ steady-kept c r (x ∷ xs) e s =
 -- runs have no address in them
 run-steady : (n b : ℕ) → 1 ≤ n → n ≤ 128 → Steady (run-cells n b)
 run-steady n b l h = elim (cases-lt 1 n) [
-      inl m ↦ subst Steady (sym (cond-true (ltb 1 n) _ _ (lt-ltb 1 n m)))
-        ( (λ r. ap (λ κ. moved-by r κ .channel) {x = kind-of (record { byte = n - 1; tag = Command })} {y = Count (n - 1)} (cond-true (ltb (n - 1) 128) _ _ (lt-ltb (n - 1) 128 (omega arith))))
-        , ((λ r. refl), tt))
-    | inr m ↦ subst Steady (sym (cond-false (ltb 1 n) _ _ (le-ltb 1 n m))) ((λ r. refl), tt) ]
+  | inl m ↦ subst Steady (sym (cond-true (ltb 1 n) _ _ (lt-ltb 1 n m))) (
+    (λ r. ap (λ κ. moved-by r κ .channel) {x = kind-of (record { byte = n - 1; tag = Command })} {y = Count (n - 1)} (cond-true (ltb (n - 1) 128) _ _ (lt-ltb (n - 1) 128 (omega arith)))),
+    ((λ r. refl), tt),
+  )
+  | inr m ↦ subst Steady (sym (cond-false (ltb 1 n) _ _ (le-ltb 1 n m))) ((λ r. refl), tt)
+]
 
 runs-steady : (n b : ℕ) (xs : List ℕ) → 1 ≤ n → n ≤ 128 → Steady (runs n b xs)
 runs-steady n b [] l h = run-steady n b l h
 runs-steady n b (x ∷ xs) l h = elim (cases-bool (eqb x b && ltb n 128)) [
-      inl e ↦ subst Steady (sym (cond-true (eqb x b && ltb n 128) _ _ e))
-        (runs-steady (n + 1) b xs (omega arith) (let p = and-parts (eqb x b) (ltb n 128) e in omega (arith, ltb-true n 128 (p .1))))
-    | inr e ↦ subst Steady (sym (cond-false (eqb x b && ltb n 128) _ _ e)) (steady-++ (run-cells n b) (runs 1 x xs) (run-steady n b l h) (runs-steady 1 x xs (omega arith) (omega arith))) ]
+  | inl e ↦ subst Steady (sym (cond-true (eqb x b && ltb n 128) _ _ e))
+      (runs-steady (n + 1) b xs (omega arith) (let p = and-parts (eqb x b) (ltb n 128) e in omega (arith, ltb-true n 128 (p .1))))
+  | inr e ↦ subst Steady (sym (cond-false (eqb x b && ltb n 128) _ _ e)) (steady-++ (run-cells n b) (runs 1 x xs) (run-steady n b l h) (runs-steady 1 x xs (omega arith) (omega arith)))
+]
 
 pub text-steady : (text : List ℕ) → Steady (text-cells text)
 text-steady [] = tt

@@ -1,2 +1,3 @@
 pub mod Playing
 pub mod Delivering
+pub mod Lines

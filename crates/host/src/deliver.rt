@@ -27,7 +27,12 @@ pub impl fmt::Display for Undelivered as UndeliveredDisplay {
 }
 
 // Gives a caption to an inserter of any make: where its channel has room, all of it arrives there and nothing anywhere else.
-pub fn deliver<I: Inserter>(heap: Global, inserter: &mut I, channel: Channel, text: &[u8]) -> Result<Played, Undelivered>
+pub fn deliver<I: Inserter>(
+    heap: Global,
+    inserter: &mut I,
+    channel: Channel,
+    text: &[u8],
+) -> Result<Played, Undelivered>
     ensures { λ r. ⌜ Delivers delay (channel .number) (now (text .entry)) (meaning (now (inserter .entry))) r (meaning (now (inserter .exit))) ⌝ }
 {
     if (inserter.free(channel.number()) as usize) < text.len() {

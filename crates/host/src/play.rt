@@ -8,7 +8,7 @@ use cell::lines::HostLines;
 use inserter::interface::Inserter;
 
 // What became of cells that were given to an inserter.
-#[derive(Clone, Copy, PartialEq, Eq, Debug)]
+#[derive(Clone, Copy)]
 pub struct Played {
     // how many it took
     pub taken: usize,
@@ -21,7 +21,11 @@ fn acknowledged<I: Inserter>(inserter: &mut I, cell: Cell) -> bool
     requires { ⌜ meaning (now inserter) .front ≡ resting delay ⌝ }
     ensures { λ r. ⌜ Asked delay cell (meaning (now (inserter .entry))) r (meaning (now (inserter .exit))) ⌝ }
 {
-    let host = HostLines { clk: false, ack: cell.tag.level(), nreverse: true };
+    let host = HostLines {
+        clk: false,
+        ack: cell.tag.level(),
+        nreverse: true,
+    };
     for _past in 0..I::named_delay() {
         let _ = inserter.look(host, cell.byte);
     }
@@ -35,7 +39,14 @@ fn give<I: Inserter>(inserter: &mut I, cell: Cell) -> bool
 {
     let ready = acknowledged(inserter, cell);
     if ready {
-        let _ = inserter.look(HostLines { clk: true, ack: cell.tag.level(), nreverse: true }, cell.byte);
+        let _ = inserter.look(
+            HostLines {
+                clk: true,
+                ack: cell.tag.level(),
+                nreverse: true,
+            },
+            cell.byte,
+        );
     }
     ready
 }
@@ -49,9 +60,15 @@ pub fn play<I: Inserter>(inserter: &mut I, cells: &[Cell]) -> Played
     let _ = inserter.drop_cable();
     for i in 0..cells.len() {
         if !give(inserter, cells[i]) {
-            return Played { taken: i, looks: looks + each - 1 };
+            return Played {
+                taken: i,
+                looks: looks + each - 1,
+            };
         }
         looks += each;
     }
-    Played { taken: cells.len(), looks }
+    Played {
+        taken: cells.len(),
+        looks,
+    }
 }

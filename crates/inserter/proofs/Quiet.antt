@@ -27,4 +27,4 @@ pub quiet : {d : ℕ} {m : Meaning} {h : HostLines} {b : ℕ} {m′ : Meaning} {
 quiet {d} {m} {h} {b} {m′} l e =
     l .state
     ∙ ap (λ f. carried (rule-of m h) d f (shown-cell h b) m)
-      (same-places (subst (λ t. Places (m .cursor .channel) (cond (t && (h .ack && ltb (m .cursor .channel) 8)) (repeats (m .cursor .count)) 0) (m .free) (m′ .free)) e (l .places)))
+    (same-places (subst (λ t. Places (m .cursor .channel) (cond (t && (h .ack && ltb (m .cursor .channel) 8)) (repeats (m .cursor .count)) 0) (m .free) (m′ .free)) e (l .places)))

@@ -2,7 +2,7 @@
 use cell::cells::Cell;
 
 // Which way an inserter works: it takes cells, or it gives its own back.
-#[derive(Clone, Copy, PartialEq, Eq, Debug)]
+#[derive(Clone, Copy)]
 pub enum Way {
     Forward,
     Reverse,
@@ -25,7 +25,7 @@ pub struct Front {
 }
 
 // What a look does: the first of these, in this order, whose condition holds.
-#[derive(Clone, Copy, PartialEq, Eq, Debug)]
+#[derive(Clone, Copy)]
 pub enum Rule {
     TurnForward,
     TurnReverse,

@@ -29,7 +29,11 @@ fn digit(n: u8) -> char
     ensures is { λ r. ⌜ r ≡ digit n ⌝ }
     ensures ascii { λ r. ⌜ r < 128 ⌝ }
 {
-    if n < 10 { (b'0' + n) as char } else { (b'A' + (n - 10)) as char }
+    if n < 10 {
+        (b'0' + n) as char
+    } else {
+        (b'A' + (n - 10)) as char
+    }
 }
 
 // Bytes in hexadecimal, two digits each, without blanks.
@@ -49,7 +53,11 @@ fn letter(byte: u8) -> char
     ensures is { λ r. ⌜ r ≡ letter byte ⌝ }
     ensures ascii { λ r. ⌜ r < 128 ⌝ }
 {
-    if byte >= 32 && byte < 127 { byte as char } else { '.' }
+    if byte >= 32 && byte < 127 {
+        byte as char
+    } else {
+        '.'
+    }
 }
 
 // Bytes as text.

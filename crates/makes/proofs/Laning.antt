@@ -39,14 +39,16 @@ whole xs = omega (arith, mul-div-le (length xs) 8)
 module _ (xs lens : List ℕ) (k : ℕ) where
   pub lane-length : used (stretch xs) lens k ≡ length (lane xs lens k)
   lane-length = elim (kind k) [
-        inl l ↦ let w = whole xs in let m = used-most (stretch xs) lens k in let r = rows k 8 (stretch xs) l in simp (length-take, length-drop) (omega arith)
-      | inr h ↦ let z : used (stretch xs) lens k ≡ 0 = grind (arith, tells) in rw (length-take, z) (omega arith) ]
+    | inl l ↦ let w = whole xs in let m = used-most (stretch xs) lens k in let r = rows k 8 (stretch xs) l in simp (length-take, length-drop) (omega arith)
+    | inr h ↦ let z : used (stretch xs) lens k ≡ 0 = grind (arith, tells) in rw (length-take, z) (omega arith)
+  ]
 
   module _ (i : ℕ) where
     pub lane-place : i < used (stretch xs) lens k → k * stretch xs + i < length xs
     lane-place l = elim (kind k) [
-          inl h ↦ let w = whole xs in let m = used-most (stretch xs) lens k in omega (arith, rows k 8 (stretch xs) h)
-        | inr h ↦ let z : used (stretch xs) lens k ≡ 0 = grind (arith, tells) in omega arith ]
+      | inl h ↦ let w = whole xs in let m = used-most (stretch xs) lens k in omega (arith, rows k 8 (stretch xs) h)
+      | inr h ↦ let z : used (stretch xs) lens k ≡ 0 = grind (arith, tells) in omega arith
+    ]
 
     lane-at : i < used (stretch xs) lens k → getD (lane xs lens k) i 0 ≡ getD xs (k * stretch xs + i) 0
     lane-at l = getD-take (used (stretch xs) lens k) (drop (k * stretch xs) xs) i 0 l ∙ getD-drop (k * stretch xs) xs i 0
@@ -82,14 +84,15 @@ module _ (xs lens : List ℕ) (c n b : ℕ) (eight : length lens ≡ 8) (low : c
       let at = c * stretch xs + used (stretch xs) lens c in
       let w : List ℕ = written xs (c * stretch xs + used (stretch xs) lens c) n b in
       elim (sides k c ne) [
-        inl l ↦
-          let m = used-most (stretch xs) lens k in
-          let q : k * stretch xs + used (stretch xs) lens k ≤ c * stretch xs + used (stretch xs) lens c = omega (arith, rows k c (stretch xs) l) in
-          sym (drop-take (k * stretch xs) (used (stretch xs) lens k) w) ∙ ap (drop (k * stretch xs)) (before xs at n b inside (k * stretch xs + used (stretch xs) lens k) q)
-          ∙ drop-take (k * stretch xs) (used (stretch xs) lens k) xs
-      | inr h ↦
-          let f = fit in
-          ap (take (used (stretch xs) lens k)) (after xs at n b inside (k * stretch xs) (omega (arith, rows c k (stretch xs) h))) ]
+        | inl l ↦
+            let m = used-most (stretch xs) lens k in
+            let q : k * stretch xs + used (stretch xs) lens k ≤ c * stretch xs + used (stretch xs) lens c = omega (arith, rows k c (stretch xs) l) in
+            sym (drop-take (k * stretch xs) (used (stretch xs) lens k) w) ∙ ap (drop (k * stretch xs)) (before xs at n b inside (k * stretch xs + used (stretch xs) lens k) q)
+            ∙ drop-take (k * stretch xs) (used (stretch xs) lens k) xs
+        | inr h ↦
+            let f = fit in
+            ap (take (used (stretch xs) lens k)) (after xs at n b inside (k * stretch xs) (omega (arith, rows c k (stretch xs) h)))
+      ]
 
   laid : (ys : List ℕ) → ys ≡ written xs (c * stretch xs + used (stretch xs) lens c) n b → stretch ys ≡ stretch xs →
       Grown c n b (lane xs lens) (room xs lens) (lane ys (set lens c (used (stretch xs) lens c + n))) (room ys (set lens c (used (stretch xs) lens c + n)))
@@ -99,14 +102,14 @@ module _ (xs lens : List ℕ) (c n b : ℕ) (eight : length lens ≡ 8) (low : c
       let uh = used-here in
       record {
         here = ap (λ t. take (used t new c) (drop (c * t) ys)) same ∙ ap (λ i. take i (drop (c * stretch xs) ys)) used-here ∙ ap (λ z. take (used (stretch xs) lens c + n) (drop (c * stretch xs) z)) e
-          ∙ joined xs (c * stretch xs + used (stretch xs) lens c) n b inside (c * stretch xs) (used (stretch xs) lens c) refl;
+            ∙ joined xs (c * stretch xs + used (stretch xs) lens c) n b inside (c * stretch xs) (used (stretch xs) lens c) refl;
         there = λ k ne. ap (λ t. take (used t new k) (drop (k * t) ys)) same ∙ ap (λ i. take i (drop (k * stretch xs) ys)) (used-there k ne)
-          ∙ ap (λ z. take (used (stretch xs) lens k) (drop (k * stretch xs) z)) e ∙ lane-there k ne;
+            ∙ ap (λ z. take (used (stretch xs) lens k) (drop (k * stretch xs) z)) e ∙ lane-there k ne;
         places = subst (λ t. Places c n (room xs lens) (λ k. cond (ltb k 8) (t - used t new k) 0)) (sym same) (record {
-            here = grind (arith, tells);
-            no-rise = λ k ne. let ut = used-there k ne in grind (arith, tells);
-            no-more = λ k ne. let ut = used-there k ne in grind (arith, tells)
-          })
+          here = grind (arith, tells);
+          no-rise = λ k ne. let ut = used-there k ne in grind (arith, tells);
+          no-more = λ k ne. let ut = used-there k ne in grind (arith, tells);
+        });
       }
 
   -- the same, as the code has it: s the places of a lane, u those of lane c in use
@@ -117,7 +120,7 @@ module _ (xs lens : List ℕ) (c n b : ℕ) (eight : length lens ≡ 8) (low : c
     pub stored : Grown c n b (lane xs lens) (room xs lens) (lane ys (set lens c (u + n))) (room ys (set lens c (u + n)))
     stored =
         let same : stretch ys ≡ stretch xs =
-              ap (λ l. min lane-limit (l / 8)) (ap length to-the-place ∙ length-written xs (c * stretch xs + used (stretch xs) lens c) n b inside) in
+        ap (λ l. min lane-limit (l / 8)) (ap length to-the-place ∙ length-written xs (c * stretch xs + used (stretch xs) lens c) n b inside) in
         subst (λ v. Grown c n b (lane xs lens) (room xs lens) (lane ys (set lens c (v + n))) (room ys (set lens c (v + n)))) (sym eu) (laid ys to-the-place same)
 
     pub memory : ys ≡ laned xs (length (lane xs lens c)) c n b

@@ -2,4 +2,3 @@ mod Offers
 mod Looks
 mod Spreading
 mod Laning
-mod Remembered

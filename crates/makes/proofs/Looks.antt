@@ -16,7 +16,7 @@ use Rattle.inserter.specs.declared.front.Rule.the-variants.{TurnForward, TurnRe
 use Rattle.inserter.specs.Meaning.{Meaning, answer-of}
 use Rattle.inserter.specs.Rules.{rule-of, faced, refaced, carried, shown-cell, takes, adds, adds-many, rest-of, Places, Looked}
 use Rattle.inserter.proofs.Quiet.{unmoved}
-use Rattle.makes.specs.Seen.{Read, Stored, stores, withdrawn}
+use Rattle.makes.specs.Seen.{Read, remembered, stores, withdrawn}
 
 level-tag : (t : Bool) → level-of (tag-at t) ≡ t
 level-tag true = refl
@@ -33,10 +33,10 @@ module _ (d : ℕ) (m : Meaning) (h : HostLines) (b : ℕ) (rule : Rule) (front 
       Places (m .cursor .channel) (cond (takes rule && (h .ack && ltb (m .cursor .channel) 8)) (repeats (m .cursor .count)) 0) (m .free) (m′ .free) →
       r ≡ answer-of m′ → Looked d m h b m′ r
   by-rule m′ r s p a = record {
-      state = subst (λ x. m′ ≡ carried x d (m′ .free) (shown-cell h b) m) is s;
-      places = subst (λ x. Places (m .cursor .channel) (cond (takes x && (h .ack && ltb (m .cursor .channel) 8)) (repeats (m .cursor .count)) 0) (m .free) (m′ .free)) is p;
-      answer = a
-    }
+    state = subst (λ x. m′ ≡ carried x d (m′ .free) (shown-cell h b) m) is s;
+    places = subst (λ x. Places (m .cursor .channel) (cond (takes x && (h .ack && ltb (m .cursor .channel) 8)) (repeats (m .cursor .count)) 0) (m .free) (m′ .free)) is p;
+    answer = a;
+  }
 
   -- the rule at hand adds as the rule that applies does
   adds-by : (takes rule && (h .ack && ltb (m .cursor .channel) 8)) ≡ adds m h
@@ -50,20 +50,20 @@ module _ (d : ℕ) (m : Meaning) (h : HostLines) (b : ℕ) (rule : Rule) (front 
   took e m′ r read a =
       by-rule (refaced (m′ .free) m′ front) r
       (subst (λ x. refaced (m′ .free) m′ front ≡ carried x d (m′ .free) (shown-cell h b) m) (sym e)
-        (meant (m′ .free) (fun-ext (read .held)) (read .cursor) (read .offers) (faces ∙ ap (λ x. faced x d (m .offers) (m .front)) e)))
+      (meant (m′ .free) (fun-ext (read .held)) (read .cursor) (read .offers) (faces ∙ ap (λ x. faced x d (m .offers) (m .front)) e)))
       (subst (λ t. Places (m .cursor .channel) (cond t (repeats (m .cursor .count)) 0) (m .free) (m′ .free)) (stores-by e ∙ sym adds-by) (read .places))
       a
 
-  pub took-stored : rule ≡ Take → {S : Type 0} (wrote : S → ℕ → ℕ → ℕ → S → Type 0) (s s′ : S) →
-      Stored wrote (stores (m .cursor) (shown-cell h b)) (m .cursor) b s s′ → Stored wrote (adds m h) (m .cursor) b s s′
-  took-stored e wrote s s′ w = subst (λ t. Stored wrote t (m .cursor) b s s′) (stores-by e) w
+  pub took-memory : rule ≡ Take → {M : Type 0} (rewritten : M → ℕ → ℕ → ℕ → ℕ → M) (mem mem′ : M) →
+      mem′ ≡ remembered rewritten (stores (m .cursor) (shown-cell h b)) mem m b → mem′ ≡ remembered rewritten (adds m h) mem m b
+  took-memory e rewritten mem mem′ w = w ∙ ap (λ t. remembered rewritten t mem m b) (stores-by e)
 
   no-adds : takes rule ≡ false → adds m h ≡ false
   no-adds e = sym adds-by ∙ ap (λ t. t && (h .ack && ltb (m .cursor .channel) 8)) e
 
-  -- nothing was taken, so nothing was stored
-  pub none-stored : takes rule ≡ false → {S : Type 0} (wrote : S → ℕ → ℕ → ℕ → S → Type 0) (s s′ : S) → s′ ≡ s → Stored wrote (adds m h) (m .cursor) b s s′
-  none-stored e wrote s s′ w = subst (λ t. Stored wrote t (m .cursor) b s s′) (sym (no-adds e)) w
+  -- nothing was taken, so the memory stays
+  pub none-memory : takes rule ≡ false → {M : Type 0} (rewritten : M → ℕ → ℕ → ℕ → ℕ → M) (mem mem′ : M) → mem′ ≡ mem → mem′ ≡ remembered rewritten (adds m h) mem m b
+  none-memory e rewritten mem mem′ w = w ∙ ap (λ t. remembered rewritten t mem m b) (sym (no-adds e))
 
   none-placed : takes rule ≡ false → Places (m .cursor .channel) (cond (takes rule && (h .ack && ltb (m .cursor .channel) 8)) (repeats (m .cursor .count)) 0) (m .free) (m .free)
   none-placed e =
@@ -75,9 +75,9 @@ module _ (d : ℕ) (m : Meaning) (h : HostLines) (b : ℕ) (rule : Rule) (front 
   withdrew e m′ r left =
       subst (λ x. r ≡ answer-of (refaced (x .free) x front) → Looked d m h b (refaced (x .free) x front) r) (sym left)
       (by-rule (refaced (m .free) (withdrawn m) front) r
-        (subst (λ x. refaced (m .free) (withdrawn m) front ≡ carried x d (m .free) (shown-cell h b) m) (sym e)
-          (meant (m .free) refl refl refl (faces ∙ ap (λ x. faced x d (m .offers) (m .front)) e)))
-        (none-placed (ap takes e)))
+      (subst (λ x. refaced (m .free) (withdrawn m) front ≡ carried x d (m .free) (shown-cell h b) m) (sym e)
+      (meant (m .free) refl refl refl (faces ∙ ap (λ x. faced x d (m .offers) (m .front)) e)))
+      (none-placed (ap takes e)))
 
 -- any other rule changes the front alone
 plain : (rule : Rule) → (rule ≡ Take → ⊥) → (rule ≡ Withdraw → ⊥) → (d : ℕ) (free : ℕ → ℕ) (c : Cell) (m : Meaning) →
@@ -99,5 +99,5 @@ module _ (d : ℕ) (m : Meaning) (h : HostLines) (b : ℕ) (rule : Rule) (front 
       subst (λ x. r ≡ answer-of (refaced (x .free) x front) → Looked d m h b (refaced (x .free) x front) r) (sym same)
       (by-rule d m h b rule front is faces (refaced (m .free) m front) r (ap (refaced (m .free) m) faces ∙ sym (p .0)) (none-placed d m h b rule front is faces (p .1)))
 
-  pub about-stored : {S : Type 0} (wrote : S → ℕ → ℕ → ℕ → S → Type 0) (s s′ : S) → s′ ≡ s → Stored wrote (adds m h) (m .cursor) b s s′
-  about-stored wrote s s′ same = none-stored d m h b rule front is faces (plain rule t w d (m .free) (shown-cell h b) m .1) wrote s s′ same
+  pub about-memory : {M : Type 0} (rewritten : M → ℕ → ℕ → ℕ → ℕ → M) (mem mem′ : M) → mem′ ≡ mem → mem′ ≡ remembered rewritten (adds m h) mem m b
+  about-memory rewritten mem mem′ same = none-memory d m h b rule front is faces (plain rule t w d (m .free) (shown-cell h b) m .1) rewritten mem mem′ same

@@ -25,8 +25,9 @@ module _ (cells : List Cell) (gone : ℕ) where
 
   pub any-left : (d : Cell) → ltb gone (length cells) ≡ any (drop gone cells)
   any-left d = elim (cases-lt gone (length cells)) [
-        inl h ↦ lt-ltb gone (length cells) h ∙ sym (ap any (one-left d h))
-      | inr h ↦ le-ltb gone (length cells) h ∙ sym (ap any (none-left h)) ]
+    | inl h ↦ lt-ltb gone (length cells) h ∙ sym (ap any (one-left d h))
+    | inr h ↦ le-ltb gone (length cells) h ∙ sym (ap any (none-left h))
+  ]
 
   pub rest-left : (d : Cell) → gone < length cells → drop (gone + 1) cells ≡ rest-of (drop gone cells)
   rest-left d h = sym (ap rest-of (one-left d h))

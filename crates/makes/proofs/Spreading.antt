@@ -53,5 +53,5 @@ module _ {X : Type 0} (xs : List X) (at n : ℕ) (x : X) (fits : at + n ≤ leng
       let r : length (replicate n x) ≡ n = length-replicate n x in
       let d : drop o (take at xs) ≡ take u (drop o xs) = ap (λ i. drop o (take i xs)) (sym e) ∙ drop-take o u xs in
       ap (take (u + n)) (drop-append-le o (take at xs) (replicate n x ++ drop (at + n) xs) (omega arith) ∙ ap (λ z. z ++ (replicate n x ++ drop (at + n) xs)) d
-        ∙ sym (append-assoc (take u (drop o xs)) (replicate n x) (drop (at + n) xs)))
+      ∙ sym (append-assoc (take u (drop o xs)) (replicate n x) (drop (at + n) xs)))
       ∙ take-at (take u (drop o xs) ++ replicate n x) (drop (at + n) xs) (u + n) (simp (length-append, length-take, length-drop) (omega arith))

@@ -10,7 +10,7 @@ use Rattle.inserter.specs.Meaning.{Meaning}
 use Rattle.inserter.specs.Rules.{adds}
 use Rattle.makes.specs.declared.lanes.Lanes.{Lanes}
 use Rattle.makes.specs.Lanes.{lane, room, laned}
-use Rattle.makes.specs.Seen.{seen}
+use Rattle.makes.specs.Seen.{seen, remembered}
 
 abbrev pub means : Lanes → Meaning
 means s = seen (λ t. lane (now (t .bytes)) (t .lens)) (λ t. room (now (t .bytes)) (t .lens)) (s .shaken)
@@ -20,5 +20,4 @@ memory s = now (s .shaken .store .bytes)
 
 -- the memory after a look: the bytes that it adds stand behind those that their channel holds, and every other place stays
 abbrev pub memory-after : List ℕ → Meaning → HostLines → ℕ → List ℕ
-memory-after bytes m h b =
-    cond (adds m h) (laned bytes (length (m .held (m .cursor .channel))) (m .cursor .channel) (repeats (m .cursor .count)) b) bytes
+memory-after bytes m h b = remembered laned (adds m h) bytes m b

@@ -4,7 +4,7 @@ use mathlib.Core.List.{List, _++_}
 use mathlib.Core.Bool.{Bool, true, false, cond, _&&_}
 use Prim.Native.Nat.{ℕ}
 use lib.Dec.{ltb}
-use lib.ListN.{drop}
+use lib.ListN.{length, drop}
 use denote.Ref.{now}
 use Rattle.cell.specs.declared.cells.Cell.{Cell}
 use Rattle.cell.specs.declared.cursor.Cursor.{Cursor}
@@ -30,10 +30,10 @@ pub record Read (c : Cell) (m m′ : Meaning) : Type 0 where
   pub offers : m′ .offers ≡ m .offers
   pub front : m′ .front ≡ m .front
 
--- the storage either wrote bytes b as the reading stands at r, or stayed as it was
-abbrev pub Stored : {S : Type 0} → (S → ℕ → ℕ → ℕ → S → Type 0) → Bool → Cursor → ℕ → S → S → Type 0
-Stored wrote true r b s s′ = wrote s (r .channel) (repeats (r .count)) b s′
-Stored wrote false r b s s′ = s′ ≡ s
+-- the memory afterwards: a byte was written on the channel that the reading stands on, or all stays
+abbrev pub remembered : {M : Type 0} → (M → ℕ → ℕ → ℕ → ℕ → M) → Bool → M → Meaning → ℕ → M
+remembered rewritten t mem m b =
+    cond t (rewritten mem (length (m .held (m .cursor .channel))) (m .cursor .channel) (repeats (m .cursor .count)) b) mem
 
 -- the first cell on offer is gone
 abbrev pub withdrawn : Meaning → Meaning

@@ -6,7 +6,7 @@ ghost use lib.ListN.{drop, length};
 ghost use Rattle.inserter.specs.declared.front.Way.the-variants.{Forward, Reverse};
 ghost use Rattle.inserter.specs.Meaning.{any, held-on, free-on, at-place, lines-of, answer-of, resting};
 ghost use Rattle.inserter.specs.Rules.{fits-as, rule-of, faced, showing, adds, Looked, Dropped};
-ghost use Rattle.makes.specs.Seen.{seen, Read, Stored, stores, withdrawn};
+ghost use Rattle.makes.specs.Seen.{seen, Read, remembered, stores, withdrawn};
 use super::storage::Storage;
 use cell::cells::Cell;
 use cell::cells::Tag;
@@ -32,7 +32,14 @@ pub struct Handshake<'c, S> {
 pub fn at_rest(delay: u8) -> Front
     ensures { λ r. ⌜ r ≡ resting delay ⌝ }
 {
-    Front { shown: None, way: Way::Forward, clk: true, ack: false, nackreverse: true, patience: delay }
+    Front {
+        shown: None,
+        way: Way::Forward,
+        clk: true,
+        ack: false,
+        nackreverse: true,
+        patience: delay,
+    }
 }
 
 impl<S: Storage> Handshake<'_, S> {
@@ -47,7 +54,8 @@ impl<S: Storage> Handshake<'_, S> {
     {
         match tag {
             Tag::Command => true,
-            Tag::Data => self.cursor.channel > 7 || self.cursor.repeats() <= self.store.free_on(self.cursor.channel),
+            Tag::Data => self.cursor.channel > 7
+                || self.cursor.repeats() <= self.store.free_on(self.cursor.channel),
         }
     }
 
@@ -103,14 +111,35 @@ impl<S: Storage> Handshake<'_, S> {
     {
         let front = self.front;
         match rule {
-            Rule::TurnForward => Front { patience: front.patience, ..at_rest(delay) },
-            Rule::TurnReverse => Front { way: Way::Reverse, nackreverse: false, ..front },
-            Rule::Acknowledge if front.patience == 0 => Front { ack: true, patience: delay, ..front },
-            Rule::Acknowledge => Front { patience: front.patience - 1, ..front },
-            Rule::Take => Front { ack: false, ..front },
+            Rule::TurnForward => Front {
+                patience: front.patience,
+                ..at_rest(delay)
+            },
+            Rule::TurnReverse => Front {
+                way: Way::Reverse,
+                nackreverse: false,
+                ..front
+            },
+            Rule::Acknowledge if front.patience == 0 => Front {
+                ack: true,
+                patience: delay,
+                ..front
+            },
+            Rule::Acknowledge => Front {
+                patience: front.patience - 1,
+                ..front
+            },
+            Rule::Take => Front {
+                ack: false,
+                ..front
+            },
             Rule::Show => self.showing(),
             Rule::Release => Front { clk: true, ..front },
-            Rule::Withdraw => Front { shown: None, ack: false, ..front },
+            Rule::Withdraw => Front {
+                shown: None,
+                ack: false,
+                ..front
+            },
             Rule::Rest => front,
         }
     }
@@ -123,14 +152,25 @@ impl<S: Storage> Handshake<'_, S> {
             return self.front;
         }
         let cell = self.cells[self.gone];
-        Front { shown: Some(cell), clk: false, ack: cell.tag.level(), ..self.front }
+        Front {
+            shown: Some(cell),
+            clk: false,
+            ack: cell.tag.level(),
+            ..self.front
+        }
     }
 
     fn lines(&self) -> PeriphLines
         ensures { λ r. ⌜ r ≡ lines-of (seen held free (now (self .entry))) ⌝ }
     {
         let front = self.front;
-        PeriphLines { clk: front.clk, ack: front.ack, nackreverse: front.nackreverse, nrequest: !self.offering(), xflag: true }
+        PeriphLines {
+            clk: front.clk,
+            ack: front.ack,
+            nackreverse: front.nackreverse,
+            nrequest: !self.offering(),
+            xflag: true,
+        }
     }
 
     fn answer(&self) -> Answer
@@ -140,14 +180,17 @@ impl<S: Storage> Handshake<'_, S> {
             Some(cell) => cell.byte,
             None => 0,
         };
-        Answer { lines: self.lines(), byte }
+        Answer {
+            lines: self.lines(),
+            byte,
+        }
     }
 
     // A cell that fits joins the reading.
     fn read(&mut self, cell: Cell)
         requires { ⌜ fits-as (cell .tag) (seen held free (now self)) ≡ true ⌝ }
         ensures read { λ _. ⌜ Read cell (seen held free (now (self .entry))) (seen held free (now (self .exit))) ⌝ }
-        ensures stored { λ _. ⌜ Stored wrote (stores (now (self .entry) .cursor) cell) (now (self .entry) .cursor) (cell .byte) (now (self .entry) .store) (now (self .exit) .store) ⌝ }
+        ensures memory { λ _. ⌜ memory (now (self .exit) .store) ≡ remembered rewritten (stores (now (self .entry) .cursor) cell) (memory (now (self .entry) .store)) (seen held free (now (self .entry))) (cell .byte) ⌝ }
     {
         let here = self.cursor;
         self.cursor = here.after(cell);
@@ -159,7 +202,7 @@ impl<S: Storage> Handshake<'_, S> {
     // The first cell on offer is no longer on offer.
     fn withdraw(&mut self)
         ensures state { λ _. ⌜ seen held free (now (self .exit)) ≡ withdrawn (seen held free (now (self .entry))) ⌝ }
-        ensures stored { λ _. ⌜ now (self .exit) .store ≡ now (self .entry) .store ⌝ }
+        ensures memory { λ _. ⌜ memory (now (self .exit) .store) ≡ memory (now (self .entry) .store) ⌝ }
     {
         if self.gone < self.cells.len() {
             self.gone += 1;
@@ -168,12 +211,15 @@ impl<S: Storage> Handshake<'_, S> {
 
     pub fn look(&mut self, delay: u8, host: HostLines, byte: u8) -> Answer
         ensures looked { λ r. ⌜ Looked delay (seen held free (now (self .entry))) host byte (seen held free (now (self .exit))) r ⌝ }
-        ensures stored { λ _. ⌜ Stored wrote (adds (seen held free (now (self .entry))) host) (now (self .entry) .cursor) byte (now (self .entry) .store) (now (self .exit) .store) ⌝ }
+        ensures memory { λ _. ⌜ memory (now (self .exit) .store) ≡ remembered rewritten (adds (seen held free (now (self .entry))) host) (memory (now (self .entry) .store)) (seen held free (now (self .entry))) byte ⌝ }
     {
         let rule = self.rule(host);
         let front = self.front_after(rule, delay);
         match rule {
-            Rule::Take => self.read(Cell { byte, tag: Tag::from_level(host.ack) }),
+            Rule::Take => self.read(Cell {
+                byte,
+                tag: Tag::from_level(host.ack),
+            }),
             Rule::Withdraw => self.withdraw(),
             _ => {}
         }
@@ -183,9 +229,9 @@ impl<S: Storage> Handshake<'_, S> {
 
     pub fn drop_cable(&mut self, delay: u8) -> PeriphLines
         ensures dropped { λ r. ⌜ Dropped delay (seen held free (now (self .entry))) (seen held free (now (self .exit))) r ⌝ }
-        ensures stored { λ _. ⌜ now (self .exit) .store ≡ now (self .entry) .store ⌝ }
+        ensures memory { λ _. ⌜ memory (now (self .exit) .store) ≡ memory (now (self .entry) .store) ⌝ }
     {
-        self.cursor = Cursor::START;
+        self.cursor = Cursor::start();
         self.front = at_rest(delay);
         self.lines()
     }
@@ -193,18 +239,30 @@ impl<S: Storage> Handshake<'_, S> {
     pub fn length(&self, channel: u8) -> u32
         ensures { λ r. ⌜ r ≡ length (held-on (seen held free (now (self .entry))) channel) ⌝ }
     {
-        if channel < 8 { self.store.length_on(channel) } else { 0 }
+        if channel < 8 {
+            self.store.length_on(channel)
+        } else {
+            0
+        }
     }
 
     pub fn byte_at(&self, channel: u8, place: u32) -> Option<u8>
         ensures { λ r. ⌜ r ≡ at-place (held-on (seen held free (now (self .entry))) channel) place ⌝ }
     {
-        if channel < 8 { self.store.byte_on(channel, place) } else { None }
+        if channel < 8 {
+            self.store.byte_on(channel, place)
+        } else {
+            None
+        }
     }
 
     pub fn free(&self, channel: u8) -> u32
         ensures { λ r. ⌜ r ≡ free-on (seen held free (now (self .entry))) channel ⌝ }
     {
-        if channel < 8 { self.store.free_on(channel) } else { 0 }
+        if channel < 8 {
+            self.store.free_on(channel)
+        } else {
+            0
+        }
     }
 }

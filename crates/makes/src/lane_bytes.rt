@@ -1,10 +1,9 @@
 // Eight equal stretches of one lent slice, a lane for each channel.
 ghost use mathlib.Core.Path.{_≡_};
-ghost use Prim.Native.Nat.{ℕ, min, _+_, _*_};
-ghost use lib.ListN.{length};
+ghost use mathlib.Core.List.{List};
+ghost use Prim.Native.Nat.{ℕ, min};
 ghost use denote.Ref.{now};
 ghost use Rattle.makes.specs.Lanes.{stretch, used, lane, room, laned};
-ghost use Rattle.makes.specs.Spread.{written};
 use super::limits::longest_lane;
 use super::spread::spread;
 use super::storage::Storage;
@@ -35,7 +34,11 @@ impl LaneBytes<'_> {
     fn used(&self, channel: u8) -> u32
         ensures { λ r. ⌜ r ≡ used (stretch (now (now (self .entry) .bytes))) (now (self .entry) .lens) channel ⌝ }
     {
-        if channel < 8 { lesser(self.lens[channel as usize], self.stretch() as usize) } else { 0 }
+        if channel < 8 {
+            lesser(self.lens[channel as usize], self.stretch() as usize)
+        } else {
+            0
+        }
     }
 }
 
@@ -44,7 +47,11 @@ pub impl Storage for LaneBytes<'_> as LaneStorage {
 
     ghost free = { λ s. room (now (s .bytes)) (s .lens) };
 
-    ghost wrote = { λ s c n b t. now (t .bytes) ≡ laned (now (s .bytes)) (length (lane (now (s .bytes)) (s .lens) c)) c n b };
+    ghost Memory = { List ℕ };
+
+    ghost memory = { λ s. now (s .bytes) };
+
+    ghost rewritten = { laned };
 
     fn length_on(&self, channel: u8) -> u32 {
         self.used(channel)
@@ -59,7 +66,11 @@ pub impl Storage for LaneBytes<'_> as LaneStorage {
     }
 
     fn free_on(&self, channel: u8) -> u32 {
-        if channel < 8 { self.stretch() - self.used(channel) } else { 0 }
+        if channel < 8 {
+            self.stretch() - self.used(channel)
+        } else {
+            0
+        }
     }
 
     fn put(&mut self, channel: u8, n: u32, byte: u8) {

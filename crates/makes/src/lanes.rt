@@ -32,7 +32,11 @@ impl<'a, 'c> Lanes<'a, 'c> {
         ensures { λ r. ⌜ r ≡ lanes-answer (length (now (bytes .entry))) (length (now (offers .entry))) ⌝ }
     {
         let places = bytes.len() / 8;
-        if bytes.len() % 8 == 0 && places >= 1 && places <= longest_lane() as usize && offers.len() <= most_offers() {
+        if bytes.len() % 8 == 0
+            && places >= 1
+            && places <= longest_lane() as usize
+            && offers.len() <= most_offers()
+        {
             Ok(())
         } else {
             Err(Refusal::Memory)
@@ -47,8 +51,19 @@ impl<'a, 'c> Lanes<'a, 'c> {
         ensures offers { λ r. ⌜ means r .offers ≡ now (offers .entry) ⌝ }
         ensures memory { λ r. ⌜ memory r ≡ now (bytes .entry) ⌝ }
     {
-        let store = LaneBytes { bytes, lens: [0; 8] };
-        Lanes { shaken: Handshake { store, cells: offers, gone: 0, cursor: Cursor::START, front: at_rest(0) } }
+        let store = LaneBytes {
+            bytes,
+            lens: [0; 8],
+        };
+        Lanes {
+            shaken: Handshake {
+                store,
+                cells: offers,
+                gone: 0,
+                cursor: Cursor::start(),
+                front: at_rest(0),
+            },
+        }
     }
 }
 

@@ -3,6 +3,7 @@ ghost use mathlib.Core.Path.{_≡_};
 ghost use Rattle.makes.specs.Limits.{lane-limit, offer-limit};
 
 const LANE_LIMIT: u32 = 65_535;
+
 const OFFER_LIMIT: usize = 65_535;
 
 // The most places that a lane may have.

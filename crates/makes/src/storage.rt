@@ -11,8 +11,12 @@ pub trait Storage {
 
     ghost free: { Self → ℕ → ℕ };
 
-    // what a put does to the memory handed over, place by place
-    ghost wrote: { Self → ℕ → ℕ → ℕ → Self → Type 0 };
+    // the memory handed over, and what it is once a byte was written n times on a channel that held so many
+    ghost Memory: { Type 0 };
+
+    ghost memory: { Self → Memory };
+
+    ghost rewritten: { Memory → ℕ → ℕ → ℕ → ℕ → Memory };
 
     fn length_on(&self, channel: u8) -> u32
         ensures { λ r. ⌜ r ≡ length (held (now (self .entry)) channel) ⌝ };
@@ -27,5 +31,5 @@ pub trait Storage {
     fn put(&mut self, channel: u8, n: u32, byte: u8)
         requires { ⌜ channel < 8 ⌝ ∗ ⌜ n ≤ free (now self) channel ⌝ }
         ensures grown { λ _. ⌜ Grown channel n byte (held (now (self .entry))) (free (now (self .entry))) (held (now (self .exit))) (free (now (self .exit))) ⌝ }
-        ensures wrote { λ _. ⌜ wrote (now (self .entry)) channel n byte (now (self .exit)) ⌝ };
+        ensures memory { λ _. ⌜ memory (now (self .exit)) ≡ rewritten (memory (now (self .entry))) (length (held (now (self .entry)) channel)) channel n byte ⌝ };
 }

@@ -1,6 +1,7 @@
 // What is refused, each under its number.
 ghost use mathlib.Core.Path.{_≡_};
 ghost use Rattle.refusal.specs.Numbers.{number-of};
+use std::fmt;
 
 #[derive(Clone, Copy, PartialEq, Eq, Debug)]
 pub enum Refusal {
@@ -16,11 +17,17 @@ impl Refusal {
             Refusal::Memory => 13,
         }
     }
+}
 
-    // The refusal in words.
-    pub fn meaning(self) -> &'static str {
+// The number, and what it means.
+pub impl fmt::Display for Refusal as RefusalDisplay {
+    fn fmt<W: fmt::Write>(&self, f: &mut fmt::Formatter<W>) -> fmt::Result {
+        let number = self.number();
         match self {
-            Refusal::Memory => "each lane or pool has 1 to 65,535 places, all lanes are equal, and at most 65,535 cells are on offer",
+            Refusal::Memory => write!(
+                f,
+                "refusal {number}: each lane or pool has 1 to 65,535 places, all lanes are equal, and at most 65,535 cells are on offer"
+            ),
         }
     }
 }

@@ -23,9 +23,10 @@ module _ (xs : List ℕ) (i : ℕ) (p : Passed xs i) where
   -- all was passed
   pub no-end : length xs ≤ i → (xs ≡ first-line xs) × (_≡_ {A = List ℕ} [] (later-lines xs))
   no-end h =
-      let e : drop i xs ≡ [] = drop-of-length-le xs h in
-      ( sym (p .first ∙ ap (λ z. take i xs ++ first-line z) e ∙ append-nil (take i xs) ∙ take-all i xs h)
-      , sym (p .later ∙ ap later-lines e) )
+      let e : drop i xs ≡ [] = drop-of-length-le xs h in (
+        sym (p .first ∙ ap (λ z. take i xs ++ first-line z) e ∙ append-nil (take i xs) ∙ take-all i xs h),
+        sym (p .later ∙ ap later-lines e),
+      )
 
   module _ (h : i < length xs) where
     next : drop i xs ≡ getD xs i 0 ∷ drop (i + 1) xs
@@ -33,17 +34,18 @@ module _ (xs : List ℕ) (i : ℕ) (p : Passed xs i) where
 
     pub here : getD xs i 0 ≡ 10 → (take i xs ≡ first-line xs) × (drop (i + 1) xs ≡ later-lines xs)
     here e =
-        let t = eq-eqb (getD xs i 0) 10 e in
-        ( sym (p .first ∙ ap (λ z. take i xs ++ first-line z) next ∙ ap (λ z. take i xs ++ z) (cond-true (eqb (getD xs i 0) 10) _ _ t) ∙ append-nil (take i xs))
-        , sym (p .later ∙ ap later-lines next ∙ cond-true (eqb (getD xs i 0) 10) _ _ t) )
+        let t = eq-eqb (getD xs i 0) 10 e in (
+          sym (p .first ∙ ap (λ z. take i xs ++ first-line z) next ∙ ap (λ z. take i xs ++ z) (cond-true (eqb (getD xs i 0) 10) _ _ t) ∙ append-nil (take i xs)),
+          sym (p .later ∙ ap later-lines next ∙ cond-true (eqb (getD xs i 0) 10) _ _ t),
+        )
 
     pub on : (getD xs i 0 ≡ 10 → ⊥) → Passed xs (i + 1)
     on ne =
         let t = ne-eqb (getD xs i 0) 10 ne in
         record {
           first = p .first ∙ ap (λ z. take i xs ++ first-line z) next ∙ ap (λ z. take i xs ++ z) (cond-false (eqb (getD xs i 0) 10) _ _ t)
-            ∙ sym (append-assoc (take i xs) (getD xs i 0 ∷ []) (first-line (drop (i + 1) xs))) ∙ ap (λ z. z ++ first-line (drop (i + 1) xs)) (sym (take-more xs i 0 h));
-          later = p .later ∙ ap later-lines next ∙ cond-false (eqb (getD xs i 0) 10) _ _ t
+              ∙ sym (append-assoc (take i xs) (getD xs i 0 ∷ []) (first-line (drop (i + 1) xs))) ∙ ap (λ z. z ++ first-line (drop (i + 1) xs)) (sym (take-more xs i 0 h));
+          later = p .later ∙ ap later-lines next ∙ cond-false (eqb (getD xs i 0) 10) _ _ t;
         }
 
 -- a part to the end, as the code has it
@@ -52,6 +54,7 @@ part xs i = take-all (length xs - i) (drop i xs) (simp length-drop (omega arith)
 
 pub drop-short : (xs : List ℕ) (i : ℕ) → drop (min (length xs) i) xs ≡ drop i xs
 drop-short xs i = elim (cases-lt (length xs) i) [
-      inl l ↦ let e : min (length xs) i ≡ length xs = omega arith in
-        ap (λ j. drop j xs) e ∙ drop-of-length-le xs (le-refl (length xs)) ∙ sym (drop-of-length-le xs (le-of-lt l))
-    | inr l ↦ let e : min (length xs) i ≡ i = omega arith in ap (λ j. drop j xs) e ]
+  | inl l ↦ let e : min (length xs) i ≡ length xs = omega arith in
+      ap (λ j. drop j xs) e ∙ drop-of-length-le xs (le-refl (length xs)) ∙ sym (drop-of-length-le xs (le-of-lt l))
+  | inr l ↦ let e : min (length xs) i ≡ i = omega arith in ap (λ j. drop j xs) e
+]

@@ -51,48 +51,52 @@ for-++ c k xs ys = go (eqb k c && ltb k 8)
 module _ (c : ℕ) where
   run-reached : (n b : ℕ) → 1 ≤ n → n ≤ 128 → reached (on-channel c) (cells (run-cells n b)) ≡ on-channel c
   run-reached n b l h = elim (cases-lt 1 n) [
-        inl m ↦ ap (λ cs. reached (on-channel c) (cells cs)) (cond-true (ltb 1 n) _ _ (lt-ltb 1 n m))
-          ∙ ap (λ κ. reached (moved (moved-by (on-channel c) κ) (data-cell b)) []) (counts n h l)
-      | inr m ↦ ap (λ cs. reached (on-channel c) (cells cs)) (cond-false (ltb 1 n) _ _ (le-ltb 1 n m)) ]
+    | inl m ↦ ap (λ cs. reached (on-channel c) (cells cs)) (cond-true (ltb 1 n) _ _ (lt-ltb 1 n m))
+        ∙ ap (λ κ. reached (moved (moved-by (on-channel c) κ) (data-cell b)) []) (counts n h l)
+    | inr m ↦ ap (λ cs. reached (on-channel c) (cells cs)) (cond-false (ltb 1 n) _ _ (le-ltb 1 n m))
+  ]
 
   run-added : (k n b : ℕ) → 1 ≤ n → n ≤ 128 → added (on-channel c) (cells (run-cells n b)) k ≡ for c k (replicate n b)
   run-added k n b l h = elim (cases-lt 1 n) [
-        inl m ↦ ap (λ cs. added (on-channel c) (cells cs) k) (cond-true (ltb 1 n) _ _ (lt-ltb 1 n m))
-          ∙ ap (λ κ. gained-by (on-channel c) κ k ++ (gained (moved-by (on-channel c) κ) (data-cell b) k ++ [])) (counts n h l)
-          ∙ append-nil (for c k (replicate (n - 1 + 1) b))
-          ∙ ap (λ j. for c k (replicate j b)) {x = n - 1 + 1} {y = n} (omega arith)
-      | inr m ↦
-          let one : 1 ≡ n = omega arith in
-          ap (λ cs. added (on-channel c) (cells cs) k) (cond-false (ltb 1 n) _ _ (le-ltb 1 n m))
-          ∙ append-nil (for c k (replicate 1 b))
-          ∙ ap (λ j. for c k (replicate j b)) one ]
+    | inl m ↦ ap (λ cs. added (on-channel c) (cells cs) k) (cond-true (ltb 1 n) _ _ (lt-ltb 1 n m))
+        ∙ ap (λ κ. gained-by (on-channel c) κ k ++ (gained (moved-by (on-channel c) κ) (data-cell b) k ++ [])) (counts n h l)
+        ∙ append-nil (for c k (replicate (n - 1 + 1) b))
+        ∙ ap (λ j. for c k (replicate j b)) {x = n - 1 + 1} {y = n} (omega arith)
+    | inr m ↦
+        let one : 1 ≡ n = omega arith in
+        ap (λ cs. added (on-channel c) (cells cs) k) (cond-false (ltb 1 n) _ _ (le-ltb 1 n m))
+        ∙ append-nil (for c k (replicate 1 b))
+        ∙ ap (λ j. for c k (replicate j b)) one
+  ]
 
   runs-reached : (n b : ℕ) (xs : List ℕ) → 1 ≤ n → n ≤ 128 → reached (on-channel c) (cells (runs n b xs)) ≡ on-channel c
   runs-reached n b [] l h = run-reached n b l h
   runs-reached n b (x ∷ xs) l h = elim (cases-bool (eqb x b && ltb n 128)) [
-        inl e ↦ ap (λ cs. reached (on-channel c) (cells cs)) (cond-true (eqb x b && ltb n 128) _ _ e)
-          ∙ runs-reached (n + 1) b xs (omega arith) (let p = and-parts (eqb x b) (ltb n 128) e in omega (arith, ltb-true n 128 (p .1)))
-      | inr e ↦ ap (λ cs. reached (on-channel c) (cells cs)) (cond-false (eqb x b && ltb n 128) _ _ e)
-          ∙ ap (reached (on-channel c)) (map-append cell (run-cells n b) (runs 1 x xs))
-          ∙ reached-++ (on-channel c) (cells (run-cells n b)) (cells (runs 1 x xs))
-          ∙ ap (λ r. reached r (cells (runs 1 x xs))) (run-reached n b l h)
-          ∙ runs-reached 1 x xs (omega arith) (omega arith) ]
+    | inl e ↦ ap (λ cs. reached (on-channel c) (cells cs)) (cond-true (eqb x b && ltb n 128) _ _ e)
+        ∙ runs-reached (n + 1) b xs (omega arith) (let p = and-parts (eqb x b) (ltb n 128) e in omega (arith, ltb-true n 128 (p .1)))
+    | inr e ↦ ap (λ cs. reached (on-channel c) (cells cs)) (cond-false (eqb x b && ltb n 128) _ _ e)
+        ∙ ap (reached (on-channel c)) (map-append cell (run-cells n b) (runs 1 x xs))
+        ∙ reached-++ (on-channel c) (cells (run-cells n b)) (cells (runs 1 x xs))
+        ∙ ap (λ r. reached r (cells (runs 1 x xs))) (run-reached n b l h)
+        ∙ runs-reached 1 x xs (omega arith) (omega arith)
+  ]
 
   runs-added : (k n b : ℕ) (xs : List ℕ) → 1 ≤ n → n ≤ 128 → added (on-channel c) (cells (runs n b xs)) k ≡ for c k (replicate n b ++ xs)
   runs-added k n b [] l h = run-added k n b l h ∙ ap (for c k) (sym (append-nil (replicate n b)))
   runs-added k n b (x ∷ xs) l h = elim (cases-bool (eqb x b && ltb n 128)) [
-        inl e ↦
-          let p = and-parts (eqb x b) (ltb n 128) e in
-          ap (λ cs. added (on-channel c) (cells cs) k) (cond-true (eqb x b && ltb n 128) _ _ e)
-          ∙ runs-added k (n + 1) b xs (omega arith) (omega (arith, ltb-true n 128 (p .1)))
-          ∙ ap (for c k) (ap (λ j. replicate j b ++ xs) (add-one n) ∙ sym (more n b xs) ∙ ap (λ y. replicate n b ++ (y ∷ xs)) (sym (eqb-true x b (p .0))))
-      | inr e ↦ ap (λ cs. added (on-channel c) (cells cs) k) (cond-false (eqb x b && ltb n 128) _ _ e)
-          ∙ ap (λ is. added (on-channel c) is k) (map-append cell (run-cells n b) (runs 1 x xs))
-          ∙ added-++ (on-channel c) (cells (run-cells n b)) (cells (runs 1 x xs)) k
-          ∙ ap (λ r. added (on-channel c) (cells (run-cells n b)) k ++ added r (cells (runs 1 x xs)) k) (run-reached n b l h)
-          ∙ ap (λ z. z ++ added (on-channel c) (cells (runs 1 x xs)) k) (run-added k n b l h)
-          ∙ ap (λ z. for c k (replicate n b) ++ z) (runs-added k 1 x xs (omega arith) (omega arith))
-          ∙ for-++ c k (replicate n b) (x ∷ xs) ]
+    | inl e ↦
+        let p = and-parts (eqb x b) (ltb n 128) e in
+        ap (λ cs. added (on-channel c) (cells cs) k) (cond-true (eqb x b && ltb n 128) _ _ e)
+        ∙ runs-added k (n + 1) b xs (omega arith) (omega (arith, ltb-true n 128 (p .1)))
+        ∙ ap (for c k) (ap (λ j. replicate j b ++ xs) (add-one n) ∙ sym (more n b xs) ∙ ap (λ y. replicate n b ++ (y ∷ xs)) (sym (eqb-true x b (p .0))))
+    | inr e ↦ ap (λ cs. added (on-channel c) (cells cs) k) (cond-false (eqb x b && ltb n 128) _ _ e)
+        ∙ ap (λ is. added (on-channel c) is k) (map-append cell (run-cells n b) (runs 1 x xs))
+        ∙ added-++ (on-channel c) (cells (run-cells n b)) (cells (runs 1 x xs)) k
+        ∙ ap (λ r. added (on-channel c) (cells (run-cells n b)) k ++ added r (cells (runs 1 x xs)) k) (run-reached n b l h)
+        ∙ ap (λ z. z ++ added (on-channel c) (cells (runs 1 x xs)) k) (run-added k n b l h)
+        ∙ ap (λ z. for c k (replicate n b) ++ z) (runs-added k 1 x xs (omega arith) (omega arith))
+        ∙ for-++ c k (replicate n b) (x ∷ xs)
+  ]
 
   pub text-reached : (text : List ℕ) → reached (on-channel c) (cells (text-cells text)) ≡ on-channel c
   text-reached [] = refl
@@ -112,10 +116,10 @@ addresses c l = cond-false (ltb (128 + c) 128) _ _ (le-ltb (128 + c) 128 (omega 
 
 pub spells : (c : ℕ) (text : List ℕ) → c < 8 → Spells (caption-cells c text) c text
 spells c text l = record {
-    there = read c ∙ cond-true (eqb c c && ltb c 8) text [] (and-from (eqb c c) (ltb c 8) (eq-eqb c c refl) (lt-ltb c 8 l));
-    nowhere-else = λ k ne. read k ∙ cond-false (eqb k c && ltb k 8) text [] (and-left (eqb k c) (ltb k 8) (ne-eqb k c ne));
-    ends = ap (λ κ. reached (moved-by start κ) (cells (text-cells text))) (addresses c l) ∙ text-reached c text
-  }
+  there = read c ∙ cond-true (eqb c c && ltb c 8) text [] (and-from (eqb c c) (ltb c 8) (eq-eqb c c refl) (lt-ltb c 8 l));
+  nowhere-else = λ k ne. read k ∙ cond-false (eqb k c && ltb k 8) text [] (and-left (eqb k c) (ltb k 8) (ne-eqb k c ne));
+  ends = ap (λ κ. reached (moved-by start κ) (cells (text-cells text))) (addresses c l) ∙ text-reached c text;
+}
   where
     read : (k : ℕ) → reading (cells (caption-cells c text)) k ≡ for c k text
     read k = ap (λ κ. gained-by start κ k ++ added (moved-by start κ) (cells (text-cells text)) k) (addresses c l) ∙ text-added c k text

@@ -20,9 +20,15 @@ fn push_run(cells: &mut Vec<Cell>, n: u8, byte: u8) -> Result<(), AllocError>
     ensures { λ r. ⌜ made r (λ _. vec-items (now (cells .exit)) ≡ vec-items (now (cells .entry)) ++ run-cells n byte) ⌝ }
 {
     if n > 1 {
-        cells.push(Cell { byte: n - 1, tag: Tag::Command })?;
+        cells.push(Cell {
+            byte: n - 1,
+            tag: Tag::Command,
+        })?;
     }
-    cells.push(Cell { byte, tag: Tag::Data })?;
+    cells.push(Cell {
+        byte,
+        tag: Tag::Data,
+    })?;
     Ok(())
 }
 
@@ -55,7 +61,10 @@ pub fn encode(heap: Global, channel: Channel, text: &[u8]) -> Result<Vec<Cell>, 
     ensures reading { λ r. ⌜ made r (λ v. Spells (vec-items v) (channel .number) (now (text .entry))) ⌝ }
 {
     let mut cells = Vec::new(heap);
-    cells.push(Cell { byte: 0x80 + channel.number(), tag: Tag::Command })?;
+    cells.push(Cell {
+        byte: 0x80 + channel.number(),
+        tag: Tag::Command,
+    })?;
     push_text(&mut cells, text)?;
     Ok(cells)
 }

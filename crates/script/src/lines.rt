@@ -22,7 +22,10 @@ pub enum BadLine {
 pub impl fmt::Display for BadLine as BadLineDisplay {
     fn fmt<W: fmt::Write>(&self, f: &mut fmt::Formatter<W>) -> fmt::Result {
         match self {
-            BadLine::Channel => write!(f, "no channel: a line is a channel, 0 to 7, a blank and a text"),
+            BadLine::Channel => write!(
+                f,
+                "no channel: a line is a channel, 0 to 7, a blank and a text"
+            ),
             BadLine::Text => write!(f, "no text after the channel"),
         }
     }

@@ -16,10 +16,11 @@ loop-place-again g c =
     let i = c .loop-place .place in
     let within : c .loop-place .place < length (held-on (g .I·Inserter .meaning (c .args .inserter .now)) (c .args .channel)) = omega (arith, c .length-place-end .ensures, c .loop-place-test .taken) in
     elim (c .match-byte-at .came) [
-      in-Some·in-Continue-push w ↦
-        ap vec-items (w .bytes-is) ∙ w .in-Continue-push .ensures tt .items ∙ ap (λ z. z ++ (w .in-Some .byte ∷ [])) (c .loop-place .inv)
-        ∙ ap (λ b. take i xs ++ (b ∷ [])) (byte-there xs i (w .in-Some .byte) (c .byte-at .result) within (c .byte-at .ensures) (w .in-Some .is)) ∙ sym (take-more xs i 0 within)
-    | in-rest w ↦ absurd (no-gap xs i (c .byte-at .result) within (c .byte-at .ensures) (w .in-rest .is)) ]
+      | in-Some·in-Continue-push w ↦
+          ap vec-items (w .bytes-is) ∙ w .in-Continue-push .ensures tt .items ∙ ap (λ z. z ++ (w .in-Some .byte ∷ [])) (c .loop-place .inv)
+          ∙ ap (λ b. take i xs ++ (b ∷ [])) (byte-there xs i (w .in-Some .byte) (c .byte-at .result) within (c .byte-at .ensures) (w .in-Some .is)) ∙ sym (take-more xs i 0 within)
+      | in-rest w ↦ absurd (no-gap xs i (c .byte-at .result) within (c .byte-at .ensures) (w .in-rest .is))
+    ]
 
 pub returns : need.returns
 returns g c =

@@ -11,5 +11,5 @@ returns g c =
     let channel = c .args .channel in
     let p = c .play .result in
     arrives d (channel .number) (c .args .text .now) (channel .kept) m (means (c .play .last .inserter)) p
-      (has-room (m .free) (channel .number) (c .number .result) (c .free .result) _ (channel .kept) (c .number .ensures) (c .free .ensures) (c .if-free-text .left))
-      (subst (λ cs. Plays d m cs (means (c .play .last .inserter)) (p .taken) (p .looks)) (c .deref .ensures .value ∙ c .in-Ok .ensures tt .cells) (c .play .ensures))
+    (has-room (m .free) (channel .number) (c .number .result) (c .free .result) _ (channel .kept) (c .number .ensures) (c .free .ensures) (c .if-free-text .left))
+    (subst (λ cs. Plays d m cs (means (c .play .last .inserter)) (p .taken) (p .looks)) (c .deref .ensures .value ∙ c .in-Ok .ensures tt .cells) (c .play .ensures))

@@ -12,7 +12,7 @@ returns c =
     let text = c .args .text .now in
     let channel = c .args .channel .number in
     let cells : vec-items (c .push-text .last .cells) ≡ caption-cells (c .args .channel .number) (c .args .text .now) =
-          c .in-Continue-push-text .ensures tt
-          ∙ ap (λ z. z ++ text-cells text) (c .in-Continue-push .ensures tt .items ∙ ap (λ z. z ++ (record { byte = 128 + c .number .result; tag = Command } ∷ [])) (c .new-cells .ensures .items))
-          ∙ ap (λ k. caption-cells k text) (c .number .ensures) in
+    c .in-Continue-push-text .ensures tt
+    ∙ ap (λ z. z ++ text-cells text) (c .in-Continue-push .ensures tt .items ∙ ap (λ z. z ++ (record { byte = 128 + c .number .result; tag = Command } ∷ [])) (c .new-cells .ensures .items))
+    ∙ ap (λ k. caption-cells k text) (c .number .ensures) in
     record { cells = cells; reading = subst (λ v. Spells v channel text) (sym cells) (spells channel text (c .args .channel .kept)) }

@@ -14,11 +14,12 @@ returns c =
     let n = c .args .n in
     c .in-Continue-push-2 .ensures tt .items
     ∙ elim (c .if-n-gt1 .came) [
-        then-n-gt1·in-Continue-push w ↦
+      | then-n-gt1·in-Continue-push w ↦
           ap (λ z. vec-items z ++ (record { byte = c .args .byte; tag = Data } ∷ [])) (w .cells-is)
           ∙ ap (λ z. z ++ (record { byte = c .args .byte; tag = Data } ∷ [])) (w .in-Continue-push .ensures tt .items)
           ∙ append-assoc before (record { byte = n - 1; tag = Command } ∷ []) (record { byte = c .args .byte; tag = Data } ∷ [])
           ∙ ap (λ z. before ++ z) (sym (cond-true (ltb 1 n) _ _ (lt-ltb 1 n (w .if-n-gt1 .taken))))
       | else-n-gt1 w ↦
           ap (λ z. vec-items z ++ (record { byte = c .args .byte; tag = Data } ∷ [])) (w .cells-is)
-          ∙ ap (λ z. before ++ z) (sym (cond-false (ltb 1 n) _ _ (le-ltb 1 n (w .if-n-gt1 .left)))) ]
+          ∙ ap (λ z. before ++ z) (sym (cond-false (ltb 1 n) _ _ (le-ltb 1 n (w .if-n-gt1 .left))))
+    ]

@@ -16,13 +16,14 @@ loop-i-again c =
     let b = c .loop-i .byte in
     let i = c .loop-i .i in
     elim (c .if-next-byte .came) [
-      need.then-next-byte·then-n-lt-LONGEST-RUN w ↦
-        let e = goes-on out _ n b text i (c .loop-i .inv .0) (c .loop-i-test .taken) (w .if-next-byte .taken) (w .if-n-lt-LONGEST-RUN .taken) in
-        simp (w .n-is, w .byte-is, w .cells-is) (e, omega arith, omega (arith, w .if-n-lt-LONGEST-RUN .taken))
-    | need.else-next-byte·in-Continue-push-run w ↦
-        let apart : (eqb (getD (c .args .text .now) (c .loop-i .i) 0) (c .loop-i .byte) && ltb (c .loop-i .n) 128) ≡ false = split (getD (c .args .text .now) (c .loop-i .i) 0) (c .loop-i .byte) (c .loop-i .n) (w .else-next-byte .either) in
-        let e = begins out _ n b text i (c .loop-i .inv .0) (c .loop-i-test .taken) (vec-items (w .push-run .last .cells)) (w .in-Continue-push-run .ensures tt) apart in
-        simp (w .n-is, w .byte-is, w .cells-is) (e, omega arith, omega arith) ]
+      | need.then-next-byte·then-n-lt-LONGEST-RUN w ↦
+          let e = goes-on out _ n b text i (c .loop-i .inv .0) (c .loop-i-test .taken) (w .if-next-byte .taken) (w .if-n-lt-LONGEST-RUN .taken) in
+          simp (w .n-is, w .byte-is, w .cells-is) (e, omega arith, omega (arith, w .if-n-lt-LONGEST-RUN .taken))
+      | need.else-next-byte·in-Continue-push-run w ↦
+          let apart : (eqb (getD (c .args .text .now) (c .loop-i .i) 0) (c .loop-i .byte) && ltb (c .loop-i .n) 128) ≡ false = split (getD (c .args .text .now) (c .loop-i .i) 0) (c .loop-i .byte) (c .loop-i .n) (w .else-next-byte .either) in
+          let e = begins out _ n b text i (c .loop-i .inv .0) (c .loop-i-test .taken) (vec-items (w .push-run .last .cells)) (w .in-Continue-push-run .ensures tt) apart in
+          simp (w .n-is, w .byte-is, w .cells-is) (e, omega arith, omega arith)
+    ]
 
 pub returns : need.returns
 returns c =

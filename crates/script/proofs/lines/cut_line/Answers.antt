@@ -20,7 +20,7 @@ returns-then-script-i-eq-NEWLINE c =
     record {
       first = ap (λ j. take j xs) {x = i - 0} {y = i} (omega arith) ∙ h .0;
       later = part xs (i + 1) ∙ h .1;
-      shorter = λ _. simp (length-take, length-drop) (omega (arith, c .loop-i-test .taken))
+      shorter = λ _. simp (length-take, length-drop) (omega (arith, c .loop-i-test .taken));
     }
 
 pub returns : need.returns
@@ -30,5 +30,5 @@ returns c =
     record {
       first = h .0;
       later = part xs (length xs) ∙ drop-of-length-le xs (le-refl (length xs)) ∙ h .1;
-      shorter = λ l. simp (length-take, length-drop) (omega (arith, l))
+      shorter = λ l. simp (length-take, length-drop) (omega (arith, l));
     }

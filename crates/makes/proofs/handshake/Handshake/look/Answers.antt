@@ -1,7 +1,7 @@
-use mathlib.Core.Path.{refl, subst, sym, ap, _∙_}
+use mathlib.Core.Path.{subst, sym, ap, _∙_}
 use Rattle.inserter.specs.Rules.{takes}
-use Rattle.makes.specs.Seen.{seen, Read, Stored, stores}
-use Rattle.makes.proofs.Looks.{took, took-stored, withdrew, none-stored, faced-about, about-stored}
+use Rattle.makes.specs.Seen.{seen, Read, stores, remembered}
+use Rattle.makes.proofs.Looks.{took, took-memory, withdrew, none-memory, faced-about, about-memory}
 use Rattle.makes.proofs.handshake.Handshake.look.Needs.{in-Take, in-Withdraw, in-rest}
 use Rattle.makes.proofs.handshake.Handshake.look.Needs as need
 
@@ -9,7 +9,8 @@ pub returns : need.returns
 returns g c =
     let held = g .S·Storage .held in
     let free = g .S·Storage .free in
-    let wrote = g .S·Storage .wrote in
+    let memory = g .S·Storage .memory in
+    let rewritten = g .S·Storage .rewritten in
     let a = c .args in
     let s = a .self .now in
     let t = c .match-rule .self in
@@ -20,26 +21,26 @@ returns g c =
     let is = c .rule-rule .ensures in
     let faces = c .front-after-front .ensures in
     elim (c .match-rule .came) [
-      in-Take w ↦
-        let e = w .in-Take .is in
-        let same = sym (w .self-is) in
-        record {
-          looked = took (a .delay) m (a .host) (a .byte) rule front is faces e m′ (c .answer .result)
-            (subst (λ x. Read (record { byte = a .byte; tag = x }) m m′) (w .from-level .ensures) (subst (λ x. Read (record { byte = a .byte; tag = w .from-level .result }) m (seen held free x)) same (w .read .ensures .read)))
-            (c .answer .ensures);
-          stored = took-stored (a .delay) m (a .host) (a .byte) rule front is faces e wrote (s .store) (t .store)
-            (subst (λ x. Stored wrote (stores (s .cursor) (record { byte = a .byte; tag = x })) (s .cursor) (a .byte) (s .store) (t .store)) (w .from-level .ensures)
-              (subst (λ x. Stored wrote (stores (s .cursor) (record { byte = a .byte; tag = w .from-level .result })) (s .cursor) (a .byte) (s .store) (x .store)) same (w .read .ensures .stored)))
-        }
-    | in-Withdraw w ↦
-        let e = w .in-Withdraw .is in
-        record {
-          looked = withdrew (a .delay) m (a .host) (a .byte) rule front is faces e m′ (c .answer .result) (ap (seen held free) (w .self-is) ∙ w .withdraw .ensures .state) (c .answer .ensures);
-          stored = none-stored (a .delay) m (a .host) (a .byte) rule front is faces (ap takes e) wrote (s .store) (t .store) (ap (λ x. x .store) (w .self-is) ∙ w .withdraw .ensures .stored)
-        }
-    | in-rest w ↦
-        let q = w .in-rest in
-        record {
-          looked = faced-about (a .delay) m (a .host) (a .byte) rule front is faces (q .not-Take) (q .not-Withdraw) m′ (c .answer .result) (ap (seen held free) (w .self-is)) (c .answer .ensures);
-          stored = about-stored (a .delay) m (a .host) (a .byte) rule front is faces (q .not-Take) (q .not-Withdraw) wrote (s .store) (t .store) (ap (λ x. x .store) (w .self-is))
-        } ]
+      | in-Take w ↦
+          let e = w .in-Take .is in
+          let same = sym (w .self-is) in
+          record {
+            looked = took (a .delay) m (a .host) (a .byte) rule front is faces e m′ (c .answer .result)
+                (subst (λ x. Read (record { byte = a .byte; tag = x }) m m′) (w .from-level .ensures) (subst (λ x. Read (record { byte = a .byte; tag = w .from-level .result }) m (seen held free x)) same (w .read .ensures .read)))
+                (c .answer .ensures);
+            memory = took-memory (a .delay) m (a .host) (a .byte) rule front is faces e rewritten (memory (s .store)) (memory (t .store))
+                (ap (λ x. memory (x .store)) (w .self-is) ∙ w .read .ensures .memory ∙ ap (λ x. remembered rewritten (stores (s .cursor) (record { byte = a .byte; tag = x })) (memory (s .store)) m (a .byte)) (w .from-level .ensures));
+          }
+      | in-Withdraw w ↦
+          let e = w .in-Withdraw .is in
+          record {
+            looked = withdrew (a .delay) m (a .host) (a .byte) rule front is faces e m′ (c .answer .result) (ap (seen held free) (w .self-is) ∙ w .withdraw .ensures .state) (c .answer .ensures);
+            memory = none-memory (a .delay) m (a .host) (a .byte) rule front is faces (ap takes e) rewritten (memory (s .store)) (memory (t .store)) (ap (λ x. memory (x .store)) (w .self-is) ∙ w .withdraw .ensures .memory);
+          }
+      | in-rest w ↦
+          let q = w .in-rest in
+          record {
+            looked = faced-about (a .delay) m (a .host) (a .byte) rule front is faces (q .not-Take) (q .not-Withdraw) m′ (c .answer .result) (ap (seen held free) (w .self-is)) (c .answer .ensures);
+            memory = about-memory (a .delay) m (a .host) (a .byte) rule front is faces (q .not-Take) (q .not-Withdraw) rewritten (memory (s .store)) (memory (t .store)) (ap (λ x. memory (x .store)) (w .self-is));
+          }
+    ]

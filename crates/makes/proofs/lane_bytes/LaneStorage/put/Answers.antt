@@ -14,7 +14,7 @@ returns c =
     let ys = c .spread .last .items in
     record {
       grown = stored xs lens (c .args .channel) (c .args .n) (c .args .byte) (search needs) (c .pre .0) (c .pre .1) ys (c .stretch-size .result) (c .used-have .result)
-        (c .stretch-size .ensures) (c .used-have .ensures) (c .spread .ensures);
-      wrote = memory xs lens (c .args .channel) (c .args .n) (c .args .byte) (search needs) (c .pre .0) (c .pre .1) ys (c .stretch-size .result) (c .used-have .result)
-        (c .stretch-size .ensures) (c .used-have .ensures) (c .spread .ensures)
+          (c .stretch-size .ensures) (c .used-have .ensures) (c .spread .ensures);
+      memory = memory xs lens (c .args .channel) (c .args .n) (c .args .byte) (search needs) (c .pre .0) (c .pre .1) ys (c .stretch-size .result) (c .used-have .result)
+          (c .stretch-size .ensures) (c .used-have .ensures) (c .spread .ensures);
     }
