@@ -16,7 +16,7 @@ use Rattle.inserter.specs.Rules.{Places}
 use Rattle.makes.specs.Limits.{lane-limit}
 use Rattle.makes.specs.Storage.{Grown}
 use Rattle.makes.specs.Spread.{written}
-use Rattle.makes.specs.Lanes.{stretch, used, lane, room, laned}
+use Rattle.makes.specs.Lanes.{stretch, used, lane, room, next-place, laned}
 use Rattle.makes.proofs.Spreading.{length-written, before, after, joined}
 
 sides : (k c : ℕ) → (k ≡ c → ⊥) → (k < c) ⊎ (c < k)
@@ -64,7 +64,7 @@ module _ (xs lens : List ℕ) (c n b : ℕ) (eight : length lens ≡ 8) (low : c
   fit : used (stretch xs) lens c + n ≤ stretch xs
   fit = let m = used-most (stretch xs) lens c in let r : room xs lens c ≡ stretch xs - used (stretch xs) lens c = grind (arith, tells) in omega arith
 
-  pub inside : c * stretch xs + used (stretch xs) lens c + n ≤ length xs
+  pub inside : next-place xs lens c + n ≤ length xs
   inside = let f = fit in let w = whole xs in omega (arith, rows c 8 (stretch xs) low)
 
   used-here : used (stretch xs) (set lens c (used (stretch xs) lens c + n)) c ≡ used (stretch xs) lens c + n
@@ -112,16 +112,15 @@ module _ (xs lens : List ℕ) (c n b : ℕ) (eight : length lens ≡ 8) (low : c
         });
       }
 
-  -- the same, as the code has it: s the places of a lane, u those of lane c in use
-  module _ (ys : List ℕ) (s u : ℕ) (es : s ≡ stretch xs) (eu : u ≡ used (stretch xs) lens c) (e : ys ≡ written xs (c * s + u) n b) where
-    to-the-place : ys ≡ written xs (c * stretch xs + used (stretch xs) lens c) n b
-    to-the-place = e ∙ ap (λ i. written xs i n b) (ap (λ i. c * i + u) es ∙ ap (λ i. c * stretch xs + i) eu)
+  -- the same, as the code has it: the bytes are written from `at` on, and u places of lane c were in use
+  module _ (ys : List ℕ) (at u : ℕ) (place : at ≡ next-place xs lens c) (eu : u ≡ used (stretch xs) lens c) (e : ys ≡ written xs at n b) where
+    there : ys ≡ written xs (next-place xs lens c) n b
+    there = e ∙ ap (λ i. written xs i n b) place
 
     pub stored : Grown c n b (lane xs lens) (room xs lens) (lane ys (set lens c (u + n))) (room ys (set lens c (u + n)))
     stored =
-        let same : stretch ys ≡ stretch xs =
-        ap (λ l. min lane-limit (l / 8)) (ap length to-the-place ∙ length-written xs (c * stretch xs + used (stretch xs) lens c) n b inside) in
-        subst (λ v. Grown c n b (lane xs lens) (room xs lens) (lane ys (set lens c (v + n))) (room ys (set lens c (v + n)))) (sym eu) (laid ys to-the-place same)
+        let same : stretch ys ≡ stretch xs = ap (λ l. min lane-limit (l / 8)) (ap length there ∙ length-written xs (next-place xs lens c) n b inside) in
+        subst (λ v. Grown c n b (lane xs lens) (room xs lens) (lane ys (set lens c (v + n))) (room ys (set lens c (v + n)))) (sym eu) (laid ys there same)
 
     pub memory : ys ≡ laned xs (length (lane xs lens c)) c n b
-    memory = to-the-place ∙ ap (λ i. written xs (c * stretch xs + i) n b) (lane-length xs lens c)
+    memory = there ∙ ap (λ i. written xs (c * stretch xs + i) n b) (lane-length xs lens c)

@@ -22,6 +22,10 @@ lane bytes lens k = take (used (stretch bytes) lens k) (drop (k * stretch bytes)
 abbrev pub room : List ℕ → List ℕ → ℕ → ℕ
 room bytes lens k = cond (ltb k 8) (stretch bytes - used (stretch bytes) lens k) 0
 
+-- the place of lane k that comes next
+abbrev pub next-place : List ℕ → List ℕ → ℕ → ℕ
+next-place bytes lens k = k * stretch bytes + used (stretch bytes) lens k
+
 -- the memory once b is written n times on channel c, whose lane held as many bytes as `held`
 abbrev pub laned : List ℕ → ℕ → ℕ → ℕ → ℕ → List ℕ
 laned bytes held c n b = written bytes (c * stretch bytes + held) n b

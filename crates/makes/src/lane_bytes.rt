@@ -3,7 +3,7 @@ ghost use mathlib.Core.Path.{_≡_};
 ghost use mathlib.Core.List.{List};
 ghost use Prim.Native.Nat.{ℕ, min};
 ghost use denote.Ref.{now};
-ghost use Rattle.makes.specs.Lanes.{stretch, used, lane, room, laned};
+ghost use Rattle.makes.specs.Lanes.{stretch, used, lane, room, next-place, laned};
 use super::limits::longest_lane;
 use super::spread::spread;
 use super::storage::Storage;
@@ -40,6 +40,13 @@ impl LaneBytes<'_> {
             0
         }
     }
+
+    // The place of a lane that comes next.
+    fn next_place(&self, channel: u8) -> usize
+        ensures { λ r. ⌜ r ≡ next-place (now (now (self .entry) .bytes)) (now (self .entry) .lens) channel ⌝ }
+    {
+        channel as usize * self.stretch() as usize + self.used(channel) as usize
+    }
 }
 
 pub impl Storage for LaneBytes<'_> as LaneStorage {
@@ -74,9 +81,8 @@ pub impl Storage for LaneBytes<'_> as LaneStorage {
     }
 
     fn put(&mut self, channel: u8, n: u32, byte: u8) {
-        let size = self.stretch();
+        let at = self.next_place(channel);
         let have = self.used(channel);
-        let at = channel as usize * size as usize + have as usize;
         spread(self.bytes, at, n as usize, byte);
         self.lens[channel as usize] = have + n;
     }
