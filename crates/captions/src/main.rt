@@ -4,8 +4,8 @@ mod options;
 mod report;
 
 use evening::play_script;
-use makes::lanes::Lanes;
-use makes::lanes::LanesInserter;
+use lanes::Lanes;
+use lanes::LanesInserter;
 use options::Options;
 use options::USAGE;
 use options::parse;

@@ -1,0 +1,4 @@
+mod Offers
+mod Looks
+pub mod Spreading
+pub mod Growing

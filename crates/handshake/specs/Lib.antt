@@ -1,0 +1,4 @@
+pub mod Limits
+pub mod Storage
+pub mod Seen
+pub mod Spread

@@ -1,0 +1,3 @@
+pub mod Lanes
+pub mod LanesMeaning
+pub mod Making

@@ -1,4 +1,0 @@
-mod Offers
-mod Looks
-mod Spreading
-mod Laning

@@ -1,6 +1,0 @@
-use Rattle.cell.specs.declared.cells.Tag.the-variants.{Data}
-use Rattle.makes.proofs.Offers.{any-left}
-use Rattle.makes.proofs.handshake.Handshake.offering.Needs as need
-
-pub returns : need.returns
-returns g c = any-left _ _ (record { byte = 0; tag = Data })
