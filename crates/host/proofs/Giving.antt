@@ -25,11 +25,7 @@ use Rattle.inserter.specs.declared.front.Rule.the-variants.{Acknowledge, Take, 
 use Rattle.inserter.specs.Meaning.{Meaning, resting}
 use Rattle.inserter.specs.Rules.{fits-as, rule-of, acknowledging, refaced, carried, shown-cell, takes, Places, Looked}
 use Rattle.inserter.proofs.Quiet.{quiet}
-use Rattle.host.specs.Playing.{ready, Asked, kept-of, Took, Gave, Given}
-
--- the host's lines with a cell on them
-abbrev pub lines : Bool → Tag → HostLines
-lines clk t = record { clk = clk; ack = level-of t; nreverse = true }
+use Rattle.host.specs.Playing.{lines, ready, Asked, kept-of, Took, Gave, Given}
 
 tag-level : (t : Tag) → tag-at (level-of t) ≡ t
 tag-level Data = refl
@@ -46,11 +42,9 @@ with m f = refaced (m .free) m f
 with-own : (m : Meaning) (f : Front) → m .front ≡ f → m ≡ with m f
 with-own m f e = ap (with m) e
 
--- a look as the code has it, at a meaning and a tag that are known
-pub known : {d : ℕ} {clk l : Bool} {b : ℕ} {m m₁ m′ : Meaning} {r : Answer} (t : Tag) → m₁ ≡ m → l ≡ level-of t →
-    Looked d m₁ (record { clk = clk; ack = l; nreverse = true }) b m′ r → Looked d m (lines clk t) b m′ r
-known {d} {clk} {l} {b} {m} {m₁} {m′} {r} t e f look =
-    subst (λ x. Looked d m (record { clk = clk; ack = x; nreverse = true }) b m′ r) f (subst (λ x. Looked d x (record { clk = clk; ack = l; nreverse = true }) b m′ r) e look)
+-- a look as the code has it, at a meaning and lines that are known
+pub known : {d : ℕ} {h : HostLines} {b : ℕ} {m m₁ m′ : Meaning} {r : Answer} (clk : Bool) (t : Tag) → m₁ ≡ m → h ≡ lines clk t → Looked d m₁ h b m′ r → Looked d m (lines clk t) b m′ r
+known {d} {h} {b} {m} {m₁} {m′} {r} clk t e f look = subst (λ x. Looked d m x b m′ r) f (subst (λ x. Looked d x h b m′ r) e look)
 
 -- how a cell fits does not hang on the front
 fits-with : (t : Tag) (m : Meaning) (f : Front) → fits-as t (with m f) ≡ fits-as t m

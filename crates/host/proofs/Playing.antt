@@ -65,14 +65,14 @@ module _ (d : ℕ) (m : Meaning) (cs : List Cell) (i : ℕ) (m₁ : Meaning) (so
 pub looks-more : (n i e : ℕ) → n ≡ i * e → n + e ≡ (i + 1) * e
 looks-more n i e h = omega (arith, add-mul i 1 e, one-mul e)
 
-pub looks-stopped : (n i l d f : ℕ) → f ≡ d → n ≡ i * (f + 2) → i < l → n + (f + 2) - 1 ≡ i * (d + 2) + cond (ltb i l) (d + 1) 0
-looks-stopped n i l d f e h s =
+pub looks-stopped : (n i l d e : ℕ) → e ≡ d + 2 → n ≡ i * e → i < l → n + e - 1 ≡ i * (d + 2) + cond (ltb i l) (d + 1) 0
+looks-stopped n i l d e f h s =
     let t : cond (ltb i l) (d + 1) 0 ≡ d + 1 = cond-true (ltb i l) (d + 1) 0 (lt-ltb i l s) in
-    let g : i * (f + 2) ≡ i * (d + 2) = ap (λ x. i * (x + 2)) e in
+    let g : i * e ≡ i * (d + 2) = ap (λ x. i * x) f in
     omega arith
 
-pub looks-all : (n i l d f : ℕ) → f ≡ d → n ≡ i * (f + 2) → l ≤ i → n ≡ i * (d + 2) + cond (ltb i l) (d + 1) 0
-looks-all n i l d f e h s =
+pub looks-all : (n i l d e : ℕ) → e ≡ d + 2 → n ≡ i * e → l ≤ i → n ≡ i * (d + 2) + cond (ltb i l) (d + 1) 0
+looks-all n i l d e f h s =
     let t : cond (ltb i l) (d + 1) 0 ≡ 0 = cond-false (ltb i l) (d + 1) 0 (le-ltb i l s) in
-    let g : i * (f + 2) ≡ i * (d + 2) = ap (λ x. i * (x + 2)) e in
+    let g : i * e ≡ i * (d + 2) = ap (λ x. i * x) f in
     omega arith

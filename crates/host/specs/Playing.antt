@@ -6,7 +6,10 @@ use Prim.Native.Nat.{ℕ, _+_, _*_, _<_, _≤_}
 use lib.Dec.{ltb}
 use lib.ListN.{length, take, getD}
 use Rattle.cell.specs.declared.cells.Cell.{Cell}
+use Rattle.cell.specs.declared.cells.Tag.{Tag}
 use Rattle.cell.specs.declared.cells.Tag.the-variants.{Data}
+use Rattle.cell.specs.declared.lines.HostLines.{HostLines}
+use Rattle.cell.specs.Cells.{level-of}
 use Rattle.cell.specs.declared.cursor.Cursor.{Cursor}
 use Rattle.cell.specs.Reading.{cells, start, moved, gained, reached, reading}
 use Rattle.inserter.specs.declared.front.Front.{Front}
@@ -14,6 +17,10 @@ use Rattle.inserter.specs.declared.front.Way.the-variants.{Forward}
 use Rattle.inserter.specs.Meaning.{Meaning, resting}
 use Rattle.inserter.specs.Rules.{fits-as, refaced}
 use Rattle.std.specs.declared.option.Option.the-variants.{None}
+
+-- the host's lines with a cell on them: HostAck is its tag, and nReverseRequest is high
+abbrev pub lines : Bool → Tag → HostLines
+lines clk t = record { clk = clk; ack = level-of t; nreverse = true }
 
 -- an inserter that has acknowledged a cell
 abbrev pub ready : ℕ → Front

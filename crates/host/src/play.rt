@@ -1,8 +1,8 @@
 // Cells given to an inserter, one after the other.
 ghost use mathlib.Core.Path.{_≡_};
-ghost use Prim.Native.Nat.{ℕ, _+_, _*_};
+ghost use Prim.Native.Nat.{_+_, _<_};
 ghost use Rattle.inserter.specs.Meaning.{resting};
-ghost use Rattle.host.specs.Playing.{Asked, Given, Plays};
+ghost use Rattle.host.specs.Playing.{lines, Asked, Given, Plays};
 use cell::cells::Cell;
 use cell::lines::HostLines;
 use inserter::interface::Inserter;
@@ -16,16 +16,31 @@ pub struct Played {
     pub looks: u128,
 }
 
+// The host's lines with a cell on them: HostAck is its tag, and nReverseRequest stays high.
+fn lines_with(cell: Cell, clk: bool) -> HostLines
+    ensures { λ r. ⌜ r ≡ lines clk (cell .tag) ⌝ }
+{
+    HostLines {
+        clk,
+        ack: cell.tag.level(),
+        nreverse: true,
+    }
+}
+
+// How many looks a cell costs that is taken.
+fn cost<I: Inserter>() -> u128
+    ensures cost { λ r. ⌜ r ≡ delay + 2 ⌝ }
+    ensures small { λ r. ⌜ r < 258 ⌝ }
+{
+    u128::from(I::named_delay()) + 2
+}
+
 // Shows a cell with HostClk low for as many looks as the make's delay asks for, and says whether it was acknowledged.
 fn acknowledged<I: Inserter>(inserter: &mut I, cell: Cell) -> bool
     requires { ⌜ meaning (now inserter) .front ≡ resting delay ⌝ }
     ensures { λ r. ⌜ Asked delay cell (meaning (now (inserter .entry))) r (meaning (now (inserter .exit))) ⌝ }
 {
-    let host = HostLines {
-        clk: false,
-        ack: cell.tag.level(),
-        nreverse: true,
-    };
+    let host = lines_with(cell, false);
     for _past in 0..I::named_delay() {
         let _ = inserter.look(host, cell.byte);
     }
@@ -39,14 +54,7 @@ fn give<I: Inserter>(inserter: &mut I, cell: Cell) -> bool
 {
     let ready = acknowledged(inserter, cell);
     if ready {
-        let _ = inserter.look(
-            HostLines {
-                clk: true,
-                ack: cell.tag.level(),
-                nreverse: true,
-            },
-            cell.byte,
-        );
+        let _ = inserter.look(lines_with(cell, true), cell.byte);
     }
     ready
 }
@@ -55,7 +63,7 @@ fn give<I: Inserter>(inserter: &mut I, cell: Cell) -> bool
 pub fn play<I: Inserter>(inserter: &mut I, cells: &[Cell]) -> Played
     ensures { λ r. ⌜ Plays delay (meaning (now (inserter .entry))) (now (cells .entry)) (meaning (now (inserter .exit))) (r .taken) (r .looks) ⌝ }
 {
-    let each = u128::from(I::named_delay()) + 2;
+    let each = cost::<I>();
     let mut looks = 0;
     let _ = inserter.drop_cable();
     for i in 0..cells.len() {

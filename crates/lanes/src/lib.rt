@@ -7,6 +7,7 @@ ghost use Rattle.inserter.specs.Meaning.{held-on, free-on, at-place, New};
 ghost use Rattle.inserter.specs.Rules.{Looked, Dropped};
 ghost use Rattle.lanes.specs.Making.{lanes-answer};
 ghost use Rattle.lanes.specs.LanesMeaning.{means, memory, memory-after};
+
 mod lane_bytes;
 
 use cell::cells::Cell;

@@ -2,13 +2,11 @@
 use mathlib.Core.Path.{_≡_, refl, sym, ap, _∙_}
 use mathlib.Core.List.{List, [], _∷_, _++_, append-assoc, append-nil}
 use Prim.Native.Nat.{ℕ, _+_, _<_, _≤_}
-use native.Mathlib.Omega.{arith}
 use lib.Dec.{ltb}
 use lib.ListN.{length, take, getD}
 use Rattle.std.proofs.shelf.Lists.{take-more, take-all}
 use Rattle.std.proofs.shelf.Tests.{lt-ltb, cond-true}
-use Rattle.std.specs.declared.option.Option.{Option}
-use Rattle.std.specs.declared.option.Option.the-variants.{Some, None}
+use Rattle.std.specs.declared.option.Option.the-variants.{Some}
 use Rattle.inserter.specs.Meaning.{at-place}
 use Rattle.listing.specs.Shown.{spelt}
 
@@ -24,11 +22,5 @@ pub spelt-all : (f : ℕ → List ℕ) (xs : List ℕ) (i : ℕ) → length xs �
 spelt-all f xs i h = ap (spelt f) (take-all i xs h)
 
 -- the byte at a place that is in use
-pub byte-there : (xs : List ℕ) (i b : ℕ) (r : Option ℕ) → i < length xs → r ≡ at-place xs i → r ≡ Some b → b ≡ getD xs i 0
-byte-there xs i b r h e f = let t : at-place xs i ≡ Some (getD xs i 0) = cond-true (ltb i (length xs)) _ _ (lt-ltb i (length xs) h) in cc
-
-pub no-gap : (xs : List ℕ) (i : ℕ) (r : Option ℕ) → i < length xs → r ≡ at-place xs i → r ≡ None → ⊥
-no-gap xs i r h e f =
-    let t : at-place xs i ≡ Some (getD xs i 0) = cond-true (ltb i (length xs)) _ _ (lt-ltb i (length xs) h) in
-    let z : _≡_ {A = ℕ} 0 1 = cc in
-    omega arith
+pub byte-there : (xs : List ℕ) (i : ℕ) → i < length xs → at-place xs i ≡ Some (getD xs i 0)
+byte-there xs i h = cond-true (ltb i (length xs)) _ _ (lt-ltb i (length xs) h)

@@ -1,14 +1,30 @@
 // What a channel holds, for people to read.
 ghost use mathlib.Core.Path.{_≡_};
+ghost use mathlib.Core.List.{_++_};
 ghost use Prim.Native.Nat.{_<_};
 ghost use Rattle.std.specs.Of.String.{string-bytes};
 ghost use Rattle.std.specs.Of.Vec.{vec-items};
-ghost use Rattle.std.specs.Vec.{made};
-ghost use Rattle.inserter.specs.Meaning.{held-on};
+ghost use Rattle.std.specs.Vec.{listOf, made};
+ghost use Rattle.inserter.specs.Meaning.{at-place, held-on};
 ghost use Rattle.listing.specs.Shown.{digit, hex-of, letter, text-of};
 use inserter::interface::Inserter;
 use std::alloc::AllocError;
 use std::alloc::Global;
+
+// The byte at a place of a channel, if one is there, at the end of the list.
+fn push_at<I: Inserter>(
+    bytes: &mut Vec<u8>,
+    inserter: &I,
+    channel: u8,
+    place: u32,
+) -> Result<(), AllocError>
+    ensures { λ r. ⌜ made r (λ _. vec-items (now (bytes .exit)) ≡ vec-items (now (bytes .entry)) ++ listOf (at-place (held-on (meaning (now (inserter .entry))) channel) place)) ⌝ }
+{
+    if let Some(byte) = inserter.byte_at(channel, place) {
+        bytes.push(byte)?;
+    }
+    Ok(())
+}
 
 // The bytes that a channel holds, in order.
 pub fn held<I: Inserter>(heap: Global, inserter: &I, channel: u8) -> Result<Vec<u8>, AllocError>
@@ -16,9 +32,7 @@ pub fn held<I: Inserter>(heap: Global, inserter: &I, channel: u8) -> Result<Vec<
 {
     let mut bytes = Vec::new(heap);
     for place in 0..inserter.length(channel) {
-        if let Some(byte) = inserter.byte_at(channel, place) {
-            bytes.push(byte)?;
-        }
+        push_at(&mut bytes, inserter, channel, place)?;
     }
     Ok(bytes)
 }

@@ -1,7 +1,7 @@
 -- A script cut after its first line.
 use mathlib.Core.Path.{_≡_, refl, sym, ap, _∙_}
 use mathlib.Core.List.{List, [], _∷_, _++_, append-assoc, append-nil}
-use mathlib.Core.Bool.{cond}
+use mathlib.Core.Bool.{true, false, cond}
 use mathlib.Core.Logic.{inl, inr}
 use Prim.Native.Nat.{ℕ, min, _+_, _-_, _<_, _≤_}
 use native.Mathlib.Nat.{le-refl, le-of-lt}
@@ -11,7 +11,7 @@ use lib.Dec.{eqb}
 use lib.ListN.{length, take, drop, getD, drop-of-length-le, length-drop}
 use lib.Seq.{drop-cons}
 use Rattle.std.proofs.shelf.Lists.{take-more, take-all}
-use Rattle.std.proofs.shelf.Tests.{cases-lt, eq-eqb, ne-eqb, cond-true, cond-false}
+use Rattle.std.proofs.shelf.Tests.{cases-lt, cond-true, cond-false}
 use Rattle.script.specs.Lines.{first-line, later-lines}
 
 -- the first i bytes have no line end
@@ -32,16 +32,14 @@ module _ (xs : List ℕ) (i : ℕ) (p : Passed xs i) where
     next : drop i xs ≡ getD xs i 0 ∷ drop (i + 1) xs
     next = drop-cons xs i 0 h ∙ ap (λ j. getD xs i 0 ∷ drop j xs) (sym (add-one i))
 
-    pub here : getD xs i 0 ≡ 10 → (take i xs ≡ first-line xs) × (drop (i + 1) xs ≡ later-lines xs)
-    here e =
-        let t = eq-eqb (getD xs i 0) 10 e in (
-          sym (p .first ∙ ap (λ z. take i xs ++ first-line z) next ∙ ap (λ z. take i xs ++ z) (cond-true (eqb (getD xs i 0) 10) _ _ t) ∙ append-nil (take i xs)),
-          sym (p .later ∙ ap later-lines next ∙ cond-true (eqb (getD xs i 0) 10) _ _ t),
-        )
+    pub here : eqb (getD xs i 0) 10 ≡ true → (take i xs ≡ first-line xs) × (drop (i + 1) xs ≡ later-lines xs)
+    here t = (
+      sym (p .first ∙ ap (λ z. take i xs ++ first-line z) next ∙ ap (λ z. take i xs ++ z) (cond-true (eqb (getD xs i 0) 10) _ _ t) ∙ append-nil (take i xs)),
+      sym (p .later ∙ ap later-lines next ∙ cond-true (eqb (getD xs i 0) 10) _ _ t),
+    )
 
-    pub on : (getD xs i 0 ≡ 10 → ⊥) → Passed xs (i + 1)
-    on ne =
-        let t = ne-eqb (getD xs i 0) 10 ne in
+    pub on : eqb (getD xs i 0) 10 ≡ false → Passed xs (i + 1)
+    on t =
         record {
           first = p .first ∙ ap (λ z. take i xs ++ first-line z) next ∙ ap (λ z. take i xs ++ z) (cond-false (eqb (getD xs i 0) 10) _ _ t)
               ∙ sym (append-assoc (take i xs) (getD xs i 0 ∷ []) (first-line (drop (i + 1) xs))) ∙ ap (λ z. z ++ first-line (drop (i + 1) xs)) (sym (take-more xs i 0 h));

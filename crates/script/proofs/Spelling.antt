@@ -17,13 +17,7 @@ use Rattle.cell.specs.declared.cursor.Cursor.{Cursor}
 use Rattle.cell.specs.Cells.{kind-of}
 use Rattle.cell.specs.Reading.{Item, cell, cells, start, moved-by, gained-by, moved, gained, reached, added, reading}
 use Rattle.cell.proofs.Laws.{reached-++, added-++}
-use Rattle.script.specs.Encoding.{run-cells, runs, text-cells, caption-cells, Spells}
-
-abbrev count-cell : ℕ → Cell
-count-cell n = record { byte = n - 1; tag = Command }
-
-abbrev data-cell : ℕ → Cell
-data-cell b = record { byte = b; tag = Data }
+use Rattle.script.specs.Encoding.{data-cell, count-cell, address-cell, run-cells, runs, text-cells, caption-cells, Spells}
 
 -- a count of n - 1 is read as one
 counts : (n : ℕ) → n ≤ 128 → 1 ≤ n → kind-of (count-cell n) ≡ Count (n - 1)
@@ -111,7 +105,7 @@ module _ (c : ℕ) where
   text-added k (x ∷ xs) = runs-added k 1 x xs (omega arith) (omega arith)
 
 -- the address of one of the eight channels is read as one
-pub addresses : (c : ℕ) → c < 8 → kind-of (record { byte = 128 + c; tag = Command }) ≡ Address c
+pub addresses : (c : ℕ) → c < 8 → kind-of (address-cell c) ≡ Address c
 addresses c l = cond-false (ltb (128 + c) 128) _ _ (le-ltb (128 + c) 128 (omega arith)) ∙ ap Address (omega arith)
 
 pub spells : (c : ℕ) (text : List ℕ) → c < 8 → Spells (caption-cells c text) c text

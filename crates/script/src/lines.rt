@@ -1,14 +1,13 @@
 // A line of the script: a channel, a blank and a caption's text.
 ghost use mathlib.Core.Path.{_≡_};
-ghost use Prim.Native.Nat.{_<_};
+ghost use Prim.Native.Nat.{min, _<_};
+ghost use lib.Dec.{eqb};
 ghost use lib.ListN.{length};
 ghost use Rattle.std.specs.Results.{Cases};
 ghost use Rattle.std.specs.declared.result.Result.the-variants.{Ok, Err};
 ghost use Rattle.script.specs.Lines.{first-line, later-lines, text-of, parsed};
 use cell::channel::Channel;
 use std::fmt;
-
-const NEWLINE: u8 = b'\n';
 
 // Why a line is no caption.
 #[derive(Clone, Copy, PartialEq, Eq, Debug)]
@@ -31,6 +30,12 @@ pub impl fmt::Display for BadLine as BadLineDisplay {
     }
 }
 
+fn ends_line(byte: u8) -> bool
+    ensures { λ r. ⌜ r ≡ eqb byte 10 ⌝ }
+{
+    byte == b'\n'
+}
+
 // The first line of a script without its line end, and the lines after it.
 pub fn cut_line(script: &[u8]) -> (&[u8], &[u8])
     ensures first { λ r. ⌜ now (r .0) ≡ first-line (now (script .entry)) ⌝ }
@@ -38,7 +43,7 @@ pub fn cut_line(script: &[u8]) -> (&[u8], &[u8])
     ensures shorter { λ r. ⌜ (0 < length (now (script .entry)) → length (now (r .1)) < length (now (script .entry))) ⌝ }
 {
     for i in 0..script.len() {
-        if script[i] == NEWLINE {
+        if ends_line(script[i]) {
             return (&script[0..i], &script[i + 1..]);
         }
     }
@@ -61,10 +66,17 @@ pub fn channel_of(line: &[u8]) -> Result<Channel, BadLine>
     Ok(channel)
 }
 
+// Where a line's text begins.
+fn text_place(line: &[u8]) -> usize
+    ensures { λ r. ⌜ r ≡ min (length (now (line .entry))) 2 ⌝ }
+{
+    line.len().min(2)
+}
+
 // The text of a line: what stands after its channel and the blank.
 pub fn text_of(line: &[u8]) -> &[u8]
     ensures { λ r. ⌜ now r ≡ text-of (now (line .entry)) ⌝ }
 {
-    let from = line.len().min(2);
+    let from = text_place(line);
     &line[from..]
 }

@@ -1,6 +1,5 @@
 use native.Mathlib.Omega.{arith}
 use mathlib.Core.Path.{_≡_, sym, ap, subst, _∙_}
-use Prim.Native.Nat.{_+_}
 use native.Mathlib.Nat.{zero-mul}
 use lib.ListN.{length, getD}
 use Rattle.inserter.specs.Rules.{fits-as}
@@ -24,7 +23,7 @@ loop-i-again g c =
     let m′ = means (c .give .last .inserter) in (
       one-more d (means (c .drop-cable .last .self)) cs i (means (c .loop-i .inserter)) (c .loop-i .inv .0) (c .loop-i-test .taken) m′
           (subst (λ r. Gave r d (getD cs i no-cell) (means (c .loop-i .inserter)) m′) (c .if-not-give .left) (c .give .ensures .gave)),
-      looks-more (c .loop-i .looks) i (c .from-each .result + 2) (c .loop-i .inv .1),
+      looks-more (c .loop-i .looks) i (c .cost-each .result) (c .loop-i .inv .1),
     )
 
 pub returns-then-not-give : need.returns-then-not-give
@@ -38,7 +37,7 @@ returns-then-not-give g c =
     let so = subst (So-far d (means (c .drop-cable .last .self)) cs i) (sym same) (c .loop-i .inv .0) in
     played d (means (c .drop-cable .last .self)) cs i m′ so (means (c .args .inserter .now)) _ (c .loop-i .kept .i-end)
     (λ _. ap (fits-as (getD cs i no-cell .tag)) same ∙ sym (c .give .ensures .answer) ∙ c .if-not-give .taken)
-    (looks-stopped (c .loop-i .looks) i (length cs) d (c .from-each .result) (c .from-each .ensures ∙ c .named-delay .ensures) (c .loop-i .inv .1) (c .loop-i-test .taken))
+    (looks-stopped (c .loop-i .looks) i (length cs) d (c .cost-each .result) (c .cost-each .ensures .cost) (c .loop-i .inv .1) (c .loop-i-test .taken))
     (c .drop-cable .ensures .state)
 
 pub returns : need.returns
@@ -51,5 +50,5 @@ returns g c =
     subst (λ n. Plays d (means (c .args .inserter .now)) cs m′ n (c .loop-i .looks)) {x = i} {y = length cs} (omega arith)
     (played d (means (c .drop-cable .last .self)) cs i m′ (c .loop-i .inv .0) (means (c .args .inserter .now)) (c .loop-i .looks) (c .loop-i .kept .i-end)
     (λ s. absurd (omega arith))
-    (looks-all (c .loop-i .looks) i (length cs) d (c .from-each .result) (c .from-each .ensures ∙ c .named-delay .ensures) (c .loop-i .inv .1) (c .loop-i-test .left))
+    (looks-all (c .loop-i .looks) i (length cs) d (c .cost-each .result) (c .cost-each .ensures .cost) (c .loop-i .inv .1) (c .loop-i-test .left))
     (c .drop-cable .ensures .state))

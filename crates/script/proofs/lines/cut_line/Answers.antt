@@ -1,22 +1,19 @@
-use borrow.Author.Needs.{needs}
 use native.Mathlib.Omega.{arith}
-use mathlib.Core.Path.{_≡_, sym, ap, _∙_}
-use mathlib.Core.List.{List, []}
-use Prim.Native.Nat.{_+_, _-_, _≤_}
+use mathlib.Core.Path.{sym, ap, _∙_}
+use Prim.Native.Nat.{_+_, _-_}
 use native.Mathlib.Nat.{le-refl}
-use lib.ListN.{length, take, drop, length-take, length-drop, drop-of-length-le}
-use Rattle.std.proofs.shelf.Lists.{take-all}
+use lib.ListN.{length, take, length-take, length-drop, drop-of-length-le}
 use Rattle.script.proofs.Cutting.{no-end, here, on, part}
 use Rattle.script.proofs.lines.cut_line.Needs as need
 
 pub loop-i-again : need.loop-i-again
-loop-i-again c = on (c .args .script .now) (c .loop-i .i) (c .loop-i .inv) (c .loop-i-test .taken) (c .if-script-i-eq-NEWLINE .left)
+loop-i-again c = on (c .args .script .now) (c .loop-i .i) (c .loop-i .inv) (c .loop-i-test .taken) (sym (c .if-ends-line .ensures tt))
 
-pub returns-then-script-i-eq-NEWLINE : need.returns-then-script-i-eq-NEWLINE
-returns-then-script-i-eq-NEWLINE c =
+pub returns-then-ends-line : need.returns-then-ends-line
+returns-then-ends-line c =
     let xs = c .args .script .now in
     let i = c .loop-i .i in
-    let h = here xs i (c .loop-i .inv) (c .loop-i-test .taken) (c .if-script-i-eq-NEWLINE .taken) in
+    let h = here xs i (c .loop-i .inv) (c .loop-i-test .taken) (sym (c .if-ends-line .ensures tt)) in
     record {
       first = ap (λ j. take j xs) {x = i - 0} {y = i} (omega arith) ∙ h .0;
       later = part xs (i + 1) ∙ h .1;

@@ -6,4 +6,4 @@ use Rattle.script.proofs.lines.text_of.Needs as need
 pub returns : need.returns
 returns c =
     let line = c .args .line .now in
-    part line (c .min-from .result) ∙ ap (λ i. drop i line) (c .min-from .ensures) ∙ drop-short line 2
+    part line (c .text-place-from .result) ∙ ap (λ i. drop i line) (c .text-place-from .ensures) ∙ drop-short line 2

@@ -7,5 +7,5 @@ returns-else-channel-lt8 c =
     let s = a .self .now in
     record {
       grown = nothing-grown (s .bytes .now) (s .lens) (a .channel) (a .n) (a .byte) (c .if-channel-lt8 .left);
-      memory = nothing-written (s .bytes .now) (s .lens) (a .channel) (a .n) (a .byte) (c .if-channel-lt8 .left)
+      memory = nothing-written (s .bytes .now) (s .lens) (a .channel) (a .n) (a .byte) (c .if-channel-lt8 .left);
     }
