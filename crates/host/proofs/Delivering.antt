@@ -91,9 +91,3 @@ module _ (d c : ℕ) (text : List ℕ) (low : c < 8) (m m′ : Meaning) (p : Pla
         cells = whole;
         looks = plays .looks ∙ ap (λ n. p .taken * (d + 2) + n) (cond-false (ltb (p .taken) (length cs)) (d + 1) 0 (le-ltb (p .taken) (length cs) (omega (arith, whole)))) ∙ omega arith;
       }
-
--- the room, as the code asks for it
-pub has-room : (free : ℕ → ℕ) (c k n l : ℕ) → c < 8 → k ≡ c → n ≡ cond (ltb k 8) (free k) 0 → l ≤ n → l ≤ free c
-has-room free c k n l low e f h =
-    let t : n ≡ free c = f ∙ ap (λ j. cond (ltb j 8) (free j) 0) e ∙ cond-true (ltb c 8) (free c) 0 (lt-ltb c 8 low) in
-    omega arith

@@ -1,4 +1,7 @@
 // A caption, whole or not at all.
+ghost use mathlib.Core.Path.{_≡_};
+ghost use lib.Dec.{leb};
+ghost use lib.ListN.{length};
 ghost use Rattle.host.specs.Delivering.{Delivers};
 use super::play::Played;
 use super::play::play;
@@ -26,6 +29,13 @@ pub impl fmt::Display for Undelivered as UndeliveredDisplay {
     }
 }
 
+// Whether a channel has a place for each byte of a text.
+fn has_room<I: Inserter>(inserter: &I, channel: Channel, text: &[u8]) -> bool
+    ensures { λ r. ⌜ r ≡ leb (length (now (text .entry))) (meaning (now (inserter .entry)) .free (channel .number)) ⌝ }
+{
+    text.len() <= inserter.free(channel.number()) as usize
+}
+
 // Gives a caption to an inserter of any make: where its channel has room, all of it arrives there and nothing anywhere else.
 pub fn deliver<I: Inserter>(
     heap: Global,
@@ -35,7 +45,7 @@ pub fn deliver<I: Inserter>(
 ) -> Result<Played, Undelivered>
     ensures { λ r. ⌜ Delivers delay (channel .number) (now (text .entry)) (meaning (now (inserter .entry))) r (meaning (now (inserter .exit))) ⌝ }
 {
-    if (inserter.free(channel.number()) as usize) < text.len() {
+    if !has_room(inserter, channel, text) {
         return Err(Undelivered::NoRoom);
     }
     let Ok(cells) = encode(heap, channel, text) else {

@@ -1,6 +1,8 @@
-use mathlib.Core.Path.{subst, _∙_}
+use mathlib.Core.Path.{sym, subst, _∙_}
+use lib.ListN.{length}
+use Rattle.std.proofs.shelf.Tests.{leb-true}
 use Rattle.host.specs.Playing.{Plays}
-use Rattle.host.proofs.Delivering.{arrives, has-room}
+use Rattle.host.proofs.Delivering.{arrives}
 use Rattle.host.proofs.deliver.deliver.Needs as need
 
 pub returns : need.returns
@@ -11,5 +13,5 @@ returns g c =
     let channel = c .args .channel in
     let p = c .play .result in
     arrives d (channel .number) (c .args .text .now) (channel .kept) m (means (c .play .last .inserter)) p
-    (has-room (m .free) (channel .number) (c .number .result) (c .free .result) _ (channel .kept) (c .number .ensures) (c .free .ensures) (c .if-free-text .left))
+    (leb-true (length (c .args .text .now)) (m .free (channel .number)) (sym (c .if-not-has-room .ensures tt)))
     (subst (λ cs. Plays d m cs (means (c .play .last .inserter)) (p .taken) (p .looks)) (c .deref .ensures .value ∙ c .in-Ok .ensures tt .cells) (c .play .ensures))
