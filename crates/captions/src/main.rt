@@ -1,9 +1,8 @@
 // Reads a script of captions from standard input and plays it to an inserter with lanes.
-mod evening;
 mod options;
 mod report;
 
-use evening::play_script;
+use host::evening::play_script;
 use lanes::Lanes;
 use lanes::LanesInserter;
 use options::Options;
@@ -11,7 +10,7 @@ use options::USAGE;
 use options::parse;
 use refusal::RefusalDisplay;
 use report::print_channels;
-use report::print_evening;
+use report::print_lines;
 use std::env;
 use std::error::AnyError;
 use std::io::Read;
@@ -46,7 +45,7 @@ fn play(rt: &LibcRuntime, places: u32) -> Result<(), AnyError> {
         return Err("no lanes of so many places".into());
     }
     let mut lanes = Lanes::new(&mut memory, &[]);
-    let evening = play_script(rt, &mut lanes, &script)?;
-    print_evening(rt, &evening)?;
+    let told = play_script(heap, &mut lanes, &script)?;
+    print_lines(rt, &told)?;
     print_channels(rt, &lanes)
 }

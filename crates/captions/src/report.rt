@@ -1,22 +1,44 @@
 // What was done, in print.
-use super::evening::Evening;
+use host::deliver::UndeliveredDisplay;
+use host::line::Line;
 use inserter::interface::Inserter;
 use listing::held;
 use listing::hex;
 use listing::text;
+use script::lines::BadLineDisplay;
 use std::error::AnyError;
 use std::io;
 
-pub fn print_evening(rt: &LibcRuntime, done: &Evening) -> io::Result<()> {
-    let lines = done.lines;
-    let captions = done.captions;
-    let bad = done.bad;
-    let unsent = done.unsent;
-    let cells = done.cells;
-    let looks = done.looks;
+// Each line that was not sent, with its number and why, and then how many there were of each kind.
+pub fn print_lines(rt: &LibcRuntime, told: &[Line]) -> io::Result<()> {
+    let mut sent = 0usize;
+    let mut unsent = 0usize;
+    let mut bad = 0usize;
+    let mut cells = 0usize;
+    let mut looks = 0u128;
+    let mut number = 0usize;
+    for line in told {
+        number = number.saturating_add(1);
+        match line {
+            Line::Empty => {}
+            Line::Bad(why) => {
+                bad = bad.saturating_add(1);
+                println!(rt, "line {number}: {why}")?;
+            }
+            Line::Unsent(why) => {
+                unsent = unsent.saturating_add(1);
+                println!(rt, "line {number}: {why}")?;
+            }
+            Line::Sent(played) => {
+                sent = sent.saturating_add(1);
+                cells = cells.saturating_add(played.taken);
+                looks = looks.saturating_add(played.looks);
+            }
+        }
+    }
     println!(
         rt,
-        "{lines} lines: {captions} captions sent, {unsent} not sent, {bad} bad"
+        "{number} lines: {sent} captions sent, {unsent} not sent, {bad} bad"
     )?;
     println!(rt, "{cells} cells taken in {looks} looks")
 }

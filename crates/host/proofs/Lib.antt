@@ -2,3 +2,4 @@ mod Giving
 mod Playing
 mod Steady
 mod Delivering
+mod Telling

@@ -1,3 +1,4 @@
 pub mod Playing
 pub mod Delivering
 pub mod Lines
+pub mod Evening

@@ -1,4 +1,5 @@
 // The host's side of the handshake, for an inserter of any make.
 pub mod deliver;
+pub mod evening;
 pub mod line;
 pub mod play;

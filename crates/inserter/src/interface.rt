@@ -1,6 +1,5 @@
 // The inserter interface.
 ghost use mathlib.Core.Path.{_≡_};
-ghost use mathlib.Core.Logic.{_⊎_};
 ghost use Prim.Native.Nat.{ℕ};
 ghost use lib.ListN.{length};
 ghost use Rattle.inserter.specs.Meaning.{Meaning, held-on, free-on, at-place};

@@ -1,0 +1,46 @@
+-- A whole script that is played to an inserter.
+use mathlib.Core.Path.{_≡_}
+use mathlib.Core.List.{List, [], _∷_, _++_}
+use mathlib.Core.Bool.{cond}
+use Prim.Native.Nat.{ℕ, _<_}
+use lib.Dec.{eqb}
+use lib.ListN.{length}
+use Rattle.std.specs.declared.result.Result.{Result}
+use Rattle.std.specs.declared.result.Result.the-variants.{Ok, Err}
+use Rattle.inserter.specs.Meaning.{Meaning}
+use Rattle.script.specs.declared.lines.BadLine.{BadLine}
+use Rattle.script.specs.Lines.{first-line, later-lines, parsed}
+use Rattle.host.specs.declared.line.Line.{Line}
+use Rattle.host.specs.declared.line.Line.the-variants.{Empty, Bad, Unsent, Sent}
+
+-- what is told of a line: that it is empty, why it is no caption, or what became of its caption
+abbrev pub Told : List ℕ → Line → Type 0
+Told line Empty = length line ≡ 0
+Told line (Bad e) = parsed line ≡ Err e
+Told line (Unsent e) = (c : ℕ) × (text : List ℕ) × (parsed line ≡ Ok (c, text))
+Told line (Sent p) = (c : ℕ) × (text : List ℕ) × (parsed line ≡ Ok (c, text))
+
+-- and so of each line of a script, in order
+abbrev pub Each-told : List ℕ → List Line → Type 0
+Each-told script [] = length script ≡ 0
+Each-told script (r ∷ rs) = (0 < length script) × Told (first-line script) r × Each-told (later-lines script) rs
+
+-- what a caption puts on channel k
+abbrev pub text-for : Result (ℕ × List ℕ) BadLine → ℕ → List ℕ
+text-for (Ok p) k = cond (eqb k (p .0)) (p .1) []
+text-for (Err e) k = []
+
+-- what a line puts on channel k: its text where it was sent there
+abbrev pub line-for : List ℕ → Line → ℕ → List ℕ
+line-for line Empty k = []
+line-for line (Bad e) k = []
+line-for line (Unsent e) k = []
+line-for line (Sent p) k = text-for (parsed line) k
+
+abbrev pub texts-for : List ℕ → List Line → ℕ → List ℕ
+texts-for script [] k = []
+texts-for script (r ∷ rs) k = line-for (first-line script) r k ++ texts-for (later-lines script) rs k
+
+pub record Evening (script : List ℕ) (m : Meaning) (told : List Line) (m′ : Meaning) : Type 0 where
+  pub lines : Each-told script told
+  pub held : (k : ℕ) → m′ .held k ≡ m .held k ++ texts-for script told k
