@@ -11,6 +11,7 @@ use Rattle.inserter.specs.Meaning.{Meaning}
 use Rattle.script.specs.declared.lines.BadLine.{BadLine}
 use Rattle.script.specs.Lines.{first-line, later-lines, parsed}
 use Rattle.host.specs.declared.line.Line.{Line}
+use Rattle.host.specs.Lines.{Lined}
 use Rattle.host.specs.declared.line.Line.the-variants.{Empty, Bad, Unsent, Sent}
 
 -- what is told of a line: that it is empty, why it is no caption, or what became of its caption
@@ -40,6 +41,10 @@ line-for line (Sent p) k = text-for (parsed line) k
 abbrev pub texts-for : List ℕ → List Line → ℕ → List ℕ
 texts-for script [] k = []
 texts-for script (r ∷ rs) k = line-for (first-line script) r k ++ texts-for (later-lines script) rs k
+
+-- a line was played, and what became of it stands last
+abbrev pub Noted : ℕ → List ℕ → List Line → Meaning → List Line → Meaning → Type 0
+Noted d line told m told′ m′ = (r : Line) × (told′ ≡ told ++ (r ∷ [])) × Lined d line m r m′
 
 pub record Evening (script : List ℕ) (m : Meaning) (told : List Line) (m′ : Meaning) : Type 0 where
   pub lines : Each-told script told

@@ -13,10 +13,11 @@ pub loop-rest-again : need.loop-rest-again
 loop-rest-again g c =
     let means = g .I·Inserter .meaning in
     let rest = c .loop-rest .rest .now in
+    let noted = c .in-Continue-note-line .ensures tt in
     let some : length (c .loop-rest .rest .now) ≡ 0 → ⊥ = eqb-false (length (c .loop-rest .rest .now)) 0 (sym (c .loop-rest-test .ensures tt)) in
     one-more-told (c .args .script .now) (means (c .args .inserter .now)) (vec-items (c .loop-rest .told)) rest (means (c .loop-rest .inserter)) (c .loop-rest .inv)
-    (g .I·Inserter .delay) _ _ (c .play-line .result) (means (c .play-line .last .inserter)) (vec-items (c .push .last .self))
-    (omega (arith, some)) (c .cut-line .ensures .first) (c .cut-line .ensures .later) (c .play-line .ensures) (c .in-Continue-push .ensures tt .items)
+    (g .I·Inserter .delay) _ _ (noted .0) (means (c .note-line .last .inserter)) (vec-items (c .note-line .last .told))
+    (omega (arith, some)) (c .cut-line .ensures .first) (c .cut-line .ensures .later) (noted .2) (noted .1)
 
 pub returns : need.returns
 returns g c =
