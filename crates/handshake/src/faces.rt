@@ -27,7 +27,7 @@ pub fn at_rest(delay: u8) -> Front
 
 impl<S: Storage> Handshake<'_, S> {
     // The front after a rule is carried out.
-    pub fn front_after(&self, rule: Rule, delay: u8) -> Front
+    pub(crate) fn front_after(&self, rule: Rule, delay: u8) -> Front
         ensures { λ r. ⌜ r ≡ faced rule delay (seen held free (now (self .entry)) .offers) (now (self .entry) .front) ⌝ }
     {
         let front = self.front;
@@ -81,7 +81,7 @@ impl<S: Storage> Handshake<'_, S> {
         }
     }
 
-    pub fn lines(&self) -> PeriphLines
+    pub(crate) fn lines(&self) -> PeriphLines
         ensures { λ r. ⌜ r ≡ lines-of (seen held free (now (self .entry))) ⌝ }
     {
         let front = self.front;
@@ -94,7 +94,7 @@ impl<S: Storage> Handshake<'_, S> {
         }
     }
 
-    pub fn answer(&self) -> Answer
+    pub(crate) fn answer(&self) -> Answer
         ensures { λ r. ⌜ r ≡ answer-of (seen held free (now (self .entry))) ⌝ }
     {
         let byte = match self.front.shown {

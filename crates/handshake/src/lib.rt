@@ -1,7 +1,7 @@
 // The handshake of every make, in code once: a make is a storage under it.
 pub mod faces;
 pub mod limits;
-pub mod questions;
+mod questions;
 mod rules;
 pub mod shaken;
 pub mod spread;

@@ -13,7 +13,7 @@ use inserter::front::Way;
 
 impl<S: Storage> Handshake<'_, S> {
     // Whether cells are still on offer.
-    pub fn offering(&self) -> bool
+    pub(crate) fn offering(&self) -> bool
         ensures { λ r. ⌜ r ≡ any (seen held free (now (self .entry)) .offers) ⌝ }
     {
         self.gone < self.cells.len()
@@ -31,7 +31,7 @@ impl<S: Storage> Handshake<'_, S> {
     }
 
     // The first rule that applies.
-    pub fn rule(&self, host: HostLines) -> Rule
+    pub(crate) fn rule(&self, host: HostLines) -> Rule
         ensures { λ r. ⌜ r ≡ rule-of (seen held free (now (self .entry))) host ⌝ }
     {
         match self.front.way {
