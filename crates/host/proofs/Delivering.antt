@@ -88,6 +88,8 @@ module _ (d c : ℕ) (text : List ℕ) (low : c < 8) (m m′ : Meaning) (p : Pla
         here = held c ∙ ap (λ z. m .held c ++ z) (s .there);
         elsewhere = λ k ne. held k ∙ ap (λ z. m .held k ++ z) (s .nowhere-else k ne) ∙ append-nil (m .held k);
         offers = plays .offers;
+        cursor = plays .cursor ∙ ap (λ z. reached start (cells z)) all ∙ s .ends;
+        front = plays .front;
         cells = whole;
         looks = plays .looks ∙ ap (λ n. p .taken * (d + 2) + n) (cond-false (ltb (p .taken) (length cs)) (d + 1) 0 (le-ltb (p .taken) (length cs) (omega (arith, whole)))) ∙ omega arith;
       }

@@ -15,18 +15,12 @@ use Rattle.host.specs.declared.deliver.Undelivered.{Undelivered}
 use Rattle.host.specs.declared.deliver.Undelivered.the-variants.{NoRoom, NoMemory}
 use Rattle.host.specs.Delivering.{Delivers, Arrives}
 use Rattle.host.specs.Lines.{Lined}
-use Rattle.host.specs.Evening.{Told, Each-told, text-for, line-for, texts-for, Evening}
+use Rattle.host.specs.Evening.{Line-by-line, text-for, line-for, texts-for, Evening}
 
 same : {m m′ : Meaning} (k : ℕ) → m′ ≡ m → m′ .held k ≡ m .held k ++ []
 same {m} {m′} k e = ap (λ x. x .held k) e ∙ sym (append-nil (m .held k))
 
--- what one line does, as it is told
-one-told : (d : ℕ) (line : List ℕ) (m : Meaning) (r : Line) (m′ : Meaning) → Lined d line m r m′ → Told line r
-one-told d line m Empty m′ l = l .0
-one-told d line m (Bad e) m′ l = l .0
-one-told d line m (Unsent e) m′ l = (l .0, l .1, l .2)
-one-told d line m (Sent p) m′ l = (l .0, l .1, l .2)
-
+-- what one line puts on each channel
 one-held : (d : ℕ) (line : List ℕ) (m : Meaning) (r : Line) (m′ : Meaning) → Lined d line m r m′ → (k : ℕ) → m′ .held k ≡ m .held k ++ line-for line r k
 one-held d line m Empty m′ l k = same k (l .1)
 one-held d line m (Bad e) m′ l k = same k (l .1)
@@ -40,30 +34,30 @@ one-held d line m (Sent p) m′ l k =
     ∙ ap (λ z. m .held k ++ text-for z k) (sym (l .2))
 
 -- so far: whatever is told of the rest completes what was told of the script
-pub record So-far-told (script : List ℕ) (m : Meaning) (told : List Line) (rest : List ℕ) (m′ : Meaning) : Type 0 where
-  pub lines : (rs : List Line) → Each-told rest rs → Each-told script (told ++ rs)
+pub record So-far-told (d : ℕ) (script : List ℕ) (m : Meaning) (told : List Line) (rest : List ℕ) (m′ : Meaning) : Type 0 where
+  pub lines : (rs : List Line) (m″ : Meaning) → Line-by-line d rest m′ rs m″ → Line-by-line d script m (told ++ rs) m″
   pub held : (rs : List Line) (k : ℕ) → m′ .held k ++ texts-for rest rs k ≡ m .held k ++ texts-for script (told ++ rs) k
 
-pub none-told : (script : List ℕ) (m : Meaning) (told : List Line) → told ≡ [] → So-far-told script m told script m
-none-told script m told e = subst (λ x. So-far-told script m x script m) (sym e) (record { lines = λ rs t. t; held = λ rs k. refl })
+pub none-told : (d : ℕ) (script : List ℕ) (m : Meaning) (told : List Line) → told ≡ [] → So-far-told d script m told script m
+none-told d script m told e = subst (λ x. So-far-told d script m x script m) (sym e) (record { lines = λ rs m″ t. t; held = λ rs k. refl })
 
-module _ (script : List ℕ) (m : Meaning) (told : List Line) (rest : List ℕ) (m₁ : Meaning) (so : So-far-told script m told rest m₁) where
-  pub all-told : length rest ≡ 0 → Evening script m told m₁
+module _ (d : ℕ) (script : List ℕ) (m : Meaning) (told : List Line) (rest : List ℕ) (m₁ : Meaning) (so : So-far-told d script m told rest m₁) where
+  pub all-told : length rest ≡ 0 → Evening d script m told m₁
   all-told e = record {
-    lines = subst (Each-told script) (append-nil told) (so .lines [] e);
-    held = λ k. sym (append-nil (m₁ .held k)) ∙ so .held [] k ∙ ap (λ z. m .held k ++ texts-for script z k) (append-nil told);
-  }
+      lines = subst (λ x. Line-by-line d script m x m₁) (append-nil told) (so .lines [] m₁ (e, refl));
+      held = λ k. sym (append-nil (m₁ .held k)) ∙ so .held [] k ∙ ap (λ z. m .held k ++ texts-for script z k) (append-nil told)
+    }
 
-  pub one-more-told : (d : ℕ) (line later : List ℕ) (r : Line) (m′ : Meaning) (told′ : List Line) → 0 < length rest → line ≡ first-line rest → later ≡ later-lines rest →
-      Lined d line m₁ r m′ → told′ ≡ told ++ (r ∷ []) → So-far-told script m told′ later m′
-  one-more-told d line later r m′ told′ h el ea l et =
+  pub one-more-told : (line later : List ℕ) (r : Line) (m′ : Meaning) (told′ : List Line) → 0 < length rest → line ≡ first-line rest → later ≡ later-lines rest →
+      Lined d line m₁ r m′ → told′ ≡ told ++ (r ∷ []) → So-far-told d script m told′ later m′
+  one-more-told line later r m′ told′ h el ea l et =
       let l′ = subst (λ x. Lined d x m₁ r m′) el l in
-      subst (λ x. So-far-told script m x later m′) (sym et)
-      (subst (λ x. So-far-told script m (told ++ (r ∷ [])) x m′) (sym ea)
-      (record {
-        lines = λ rs t. subst (Each-told script) (sym (append-assoc told (r ∷ []) rs)) (so .lines (r ∷ rs) (h, one-told d (first-line rest) m₁ r m′ l′, t));
-        held = λ rs k.
+      subst (λ x. So-far-told d script m x later m′) (sym et)
+      (subst (λ x. So-far-told d script m (told ++ (r ∷ [])) x m′) (sym ea)
+        (record {
+          lines = λ rs m″ t. subst (λ x. Line-by-line d script m x m″) (sym (append-assoc told (r ∷ []) rs)) (so .lines (r ∷ rs) m″ (h, m′, l′, t));
+          held = λ rs k.
             ap (λ z. z ++ texts-for (later-lines rest) rs k) (one-held d (first-line rest) m₁ r m′ l′ k)
             ∙ append-assoc (m₁ .held k) (line-for (first-line rest) r k) (texts-for (later-lines rest) rs k)
-            ∙ so .held (r ∷ rs) k ∙ ap (λ z. m .held k ++ texts-for script z k) (sym (append-assoc told (r ∷ []) rs));
-      }))
+            ∙ so .held (r ∷ rs) k ∙ ap (λ z. m .held k ++ texts-for script z k) (sym (append-assoc told (r ∷ []) rs))
+        }))

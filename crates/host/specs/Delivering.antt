@@ -5,7 +5,8 @@ use Prim.Native.Nat.{ℕ, _+_, _*_, _<_, _≤_}
 use lib.ListN.{length}
 use Rattle.std.specs.declared.result.Result.{Result}
 use Rattle.std.specs.declared.result.Result.the-variants.{Ok, Err}
-use Rattle.inserter.specs.Meaning.{Meaning}
+use Rattle.std.specs.declared.option.Option.the-variants.{None}
+use Rattle.inserter.specs.Meaning.{Meaning, resting}
 use Rattle.script.specs.Encoding.{caption-cells}
 use Rattle.host.specs.declared.play.Played.{Played}
 use Rattle.host.specs.declared.deliver.Undelivered.{Undelivered}
@@ -17,6 +18,9 @@ pub record Arrives (delay channel : ℕ) (text : List ℕ) (m m′ : Meaning) (p
   pub here : m′ .held channel ≡ m .held channel ++ text
   pub elsewhere : (k : ℕ) → (k ≡ channel → ⊥) → m′ .held k ≡ m .held k
   pub offers : m′ .offers ≡ m .offers
+  -- the inserter is left at rest, on the channel and without a count
+  pub cursor : m′ .cursor ≡ record { channel = channel; count = None }
+  pub front : m′ .front ≡ resting delay
   pub cells : p .taken ≡ length (caption-cells channel text)
   pub looks : p .looks ≡ p .taken * (delay + 2)
 

@@ -14,17 +14,10 @@ use Rattle.host.specs.declared.line.Line.{Line}
 use Rattle.host.specs.Lines.{Lined}
 use Rattle.host.specs.declared.line.Line.the-variants.{Empty, Bad, Unsent, Sent}
 
--- what is told of a line: that it is empty, why it is no caption, or what became of its caption
-abbrev pub Told : List ℕ → Line → Type 0
-Told line Empty = length line ≡ 0
-Told line (Bad e) = parsed line ≡ Err e
-Told line (Unsent e) = (c : ℕ) × (text : List ℕ) × (parsed line ≡ Ok (c, text))
-Told line (Sent p) = (c : ℕ) × (text : List ℕ) × (parsed line ≡ Ok (c, text))
-
--- and so of each line of a script, in order
-abbrev pub Each-told : List ℕ → List Line → Type 0
-Each-told script [] = length script ≡ 0
-Each-told script (r ∷ rs) = (0 < length script) × Told (first-line script) r × Each-told (later-lines script) rs
+-- each line of a script is played in order to the inserter as the lines before left it, and told of as `Lined` says
+abbrev pub Line-by-line : ℕ → List ℕ → Meaning → List Line → Meaning → Type 0
+Line-by-line d script m [] m′ = (length script ≡ 0) × (m′ ≡ m)
+Line-by-line d script m (r ∷ rs) m′ = (0 < length script) × (m₁ : Meaning) × Lined d (first-line script) m r m₁ × Line-by-line d (later-lines script) m₁ rs m′
 
 -- what a caption puts on channel k
 abbrev pub text-for : Result (ℕ × List ℕ) BadLine → ℕ → List ℕ
@@ -46,6 +39,7 @@ texts-for script (r ∷ rs) k = line-for (first-line script) r k ++ texts-for (l
 abbrev pub Noted : ℕ → List ℕ → List Line → Meaning → List Line → Meaning → Type 0
 Noted d line told m told′ m′ = (r : Line) × (told′ ≡ told ++ (r ∷ [])) × Lined d line m r m′
 
-pub record Evening (script : List ℕ) (m : Meaning) (told : List Line) (m′ : Meaning) : Type 0 where
-  pub lines : Each-told script told
+-- what a whole script does, line by line, and what it leaves on each channel
+pub record Evening (delay : ℕ) (script : List ℕ) (m : Meaning) (told : List Line) (m′ : Meaning) : Type 0 where
+  pub lines : Line-by-line delay script m told m′
   pub held : (k : ℕ) → m′ .held k ≡ m .held k ++ texts-for script told k

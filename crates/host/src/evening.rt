@@ -29,7 +29,7 @@ pub fn play_script<I: Inserter>(
     inserter: &mut I,
     script: &[u8],
 ) -> Result<Vec<Line>, AllocError>
-    ensures { λ r. ⌜ made r (λ v. Evening (now (script .entry)) (meaning (now (inserter .entry))) (vec-items v) (meaning (now (inserter .exit)))) ⌝ }
+    ensures { λ r. ⌜ made r (λ v. Evening delay (now (script .entry)) (meaning (now (inserter .entry))) (vec-items v) (meaning (now (inserter .exit)))) ⌝ }
 {
     let mut told = Vec::new(heap);
     let mut rest = script;
