@@ -26,7 +26,7 @@ const PLACES: u32 = 4096;
 const TOO_MANY: u32 = 65_536;
 
 // The words after the program's own name.
-pub fn parse(words: &[String]) -> Options {
+pub(crate) fn parse(words: &[String]) -> Options {
     match words.len() {
         0 => Options::Places(PLACES),
         1 if words[0].as_str() == "--help" => Options::Help,
@@ -35,5 +35,43 @@ pub fn parse(words: &[String]) -> Options {
             Err(_) => Options::Wrong,
         },
         _ => Options::Wrong,
+    }
+}
+
+#[cfg(test)]
+mod tests {
+    use super::*;
+    use std::alloc::Global;
+    use std::test::*;
+
+    fn parsed(heap: Global, words: &[&str]) -> Result<Options, Fail> {
+        let mut all = Vec::new(heap);
+        for word in words {
+            all.push(String::from_str(heap, word)?)?;
+        }
+        Ok(parse(&all))
+    }
+
+    #[test]
+    fn arguments(rt: LibcRuntime) -> Result<(), Fail> {
+        let heap = rt.alloc();
+        check_eq(parsed(heap, &[])?, Options::Places(4096))?;
+        check_eq(parsed(heap, &["--help"])?, Options::Help)?;
+        check_eq(parsed(heap, &["--places", "1"])?, Options::Places(1))?;
+        check_eq(parsed(heap, &["--places", "0"])?, Options::Places(0))?;
+        check_eq(
+            parsed(heap, &["--places", "65535"])?,
+            Options::Places(65_535),
+        )?;
+        check_eq(
+            parsed(heap, &["--places", "4000000000"])?,
+            Options::Places(65_536),
+        )?;
+        check_eq(parsed(heap, &["--places", "4294967296"])?, Options::Wrong)?;
+        check_eq(parsed(heap, &["--places", "-1"])?, Options::Wrong)?;
+        check_eq(parsed(heap, &["--places", ""])?, Options::Wrong)?;
+        check_eq(parsed(heap, &["--places"])?, Options::Wrong)?;
+        check_eq(parsed(heap, &["--help", "--help"])?, Options::Wrong)?;
+        check_eq(parsed(heap, &["evening.txt"])?, Options::Wrong)
     }
 }

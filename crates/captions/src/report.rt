@@ -10,7 +10,7 @@ use std::error::AnyError;
 use std::io;
 
 // Each line that was not sent, with its number and why, and then how many there were of each kind.
-pub fn print_lines(rt: &LibcRuntime, told: &[Line]) -> io::Result<()> {
+pub(crate) fn print_lines(rt: &LibcRuntime, told: &[Line]) -> io::Result<()> {
     let mut sent = 0usize;
     let mut unsent = 0usize;
     let mut bad = 0usize;
@@ -44,7 +44,7 @@ pub fn print_lines(rt: &LibcRuntime, told: &[Line]) -> io::Result<()> {
 }
 
 // Each channel: how many bytes it holds and has room for, the bytes in hex, and as text.
-pub fn print_channels<I: Inserter>(rt: &LibcRuntime, inserter: &I) -> Result<(), AnyError> {
+pub(crate) fn print_channels<I: Inserter>(rt: &LibcRuntime, inserter: &I) -> Result<(), AnyError> {
     for channel in 0..8u8 {
         let length = inserter.length(channel);
         let free = inserter.free(channel);

@@ -1,10 +1,13 @@
--- Reading and expansion in two parts.
+-- Reading and expansion in two parts, and the tag as a line.
 use mathlib.Core.Path.{_≡_, refl, sym, ap, _∙_}
 use mathlib.Core.List.{List, [], _∷_, _++_, append-assoc}
 use Prim.Native.Nat.{ℕ}
 use Rattle.cell.specs.declared.cells.Cell.{Cell}
 use Rattle.cell.specs.declared.cursor.Cursor.{Cursor}
-use Rattle.cell.specs.Cells.{kind-of}
+use mathlib.Core.Bool.{Bool, true, false}
+use Rattle.cell.specs.declared.cells.Tag.{Tag}
+use Rattle.cell.specs.declared.cells.Tag.the-variants.{Data, Command}
+use Rattle.cell.specs.Cells.{level-of, tag-at, kind-of}
 use Rattle.cell.specs.Reading.{Item, cell, mark, start, moved, gained, reached, added}
 use Rattle.cell.specs.Expansion.{given-by, in-hand-by, in-hand, expanded}
 
@@ -29,3 +32,12 @@ expanded-++ w (c ∷ cs) ds =
     let v = in-hand-by w (kind-of c) in
     let g = given-by w (kind-of c) (c .byte) in
     ap (λ z. g ++ z) (expanded-++ v cs ds) ∙ sym (append-assoc g (expanded v cs) (expanded (in-hand v cs) ds))
+
+-- a tag and its line undo one another
+pub level-tag : (t : Bool) → level-of (tag-at t) ≡ t
+level-tag true = refl
+level-tag false = refl
+
+pub tag-level : (t : Tag) → tag-at (level-of t) ≡ t
+tag-level Data = refl
+tag-level Command = refl

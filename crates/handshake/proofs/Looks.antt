@@ -9,6 +9,7 @@ use Rattle.cell.specs.declared.cursor.Cursor.{Cursor}
 use Rattle.cell.specs.declared.lines.HostLines.{HostLines}
 use Rattle.cell.specs.declared.lines.Answer.{Answer}
 use Rattle.cell.specs.Cells.{level-of, tag-at}
+use Rattle.cell.proofs.Laws.{level-tag}
 use Rattle.cell.specs.Reading.{repeats, moved, gained}
 use Rattle.inserter.specs.declared.front.Front.{Front}
 use Rattle.inserter.specs.declared.front.Rule.{Rule}
@@ -17,10 +18,6 @@ use Rattle.inserter.specs.Meaning.{Meaning, answer-of}
 use Rattle.inserter.specs.Rules.{rule-of, faced, refaced, carried, shown-cell, takes, adds, adds-many, rest-of, Places, Looked}
 use Rattle.inserter.proofs.Quiet.{unmoved}
 use Rattle.handshake.specs.Seen.{Read, remembered, stores, withdrawn}
-
-level-tag : (t : Bool) → level-of (tag-at t) ≡ t
-level-tag true = refl
-level-tag false = refl
 
 -- a record of a meaning, field by field
 meant : (free : ℕ → ℕ) {held held′ : ℕ → List ℕ} {r r′ : Cursor} {os os′ : List Cell} {f f′ : Front} → held ≡ held′ → r ≡ r′ → os ≡ os′ → f ≡ f′ →

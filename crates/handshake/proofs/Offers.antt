@@ -4,11 +4,10 @@ use mathlib.Core.List.{List, [], _∷_}
 use mathlib.Core.Bool.{Bool, true, false}
 use mathlib.Core.Logic.{inl, inr}
 use Prim.Native.Nat.{ℕ, _+_, _<_, _≤_}
-use native.Mathlib.Numerals.{add-one}
 use native.Mathlib.Omega.{arith}
 use lib.Dec.{ltb}
 use lib.ListN.{length, drop, getD, drop-of-length-le}
-use lib.Seq.{drop-cons}
+use Rattle.std.proofs.shelf.Lists.{drop-more}
 use Rattle.std.proofs.shelf.Tests.{cases-lt, lt-ltb, le-ltb}
 use Rattle.cell.specs.declared.cells.Cell.{Cell}
 use Rattle.inserter.specs.declared.front.Front.{Front}
@@ -18,7 +17,7 @@ use Rattle.inserter.specs.Rules.{showing, rest-of}
 module _ (cells : List Cell) (gone : ℕ) where
   -- one is left: it stands at the place that comes next
   pub one-left : (d : Cell) → gone < length cells → drop gone cells ≡ getD cells gone d ∷ drop (gone + 1) cells
-  one-left d h = drop-cons cells gone d h ∙ ap (λ i. getD cells gone d ∷ drop i cells) (sym (add-one gone))
+  one-left d h = drop-more cells gone d h
 
   pub none-left : length cells ≤ gone → drop gone cells ≡ []
   none-left h = drop-of-length-le cells h

@@ -17,6 +17,7 @@ use Rattle.cell.specs.declared.cursor.Cursor.{Cursor}
 use Rattle.cell.specs.declared.lines.HostLines.{HostLines}
 use Rattle.cell.specs.declared.lines.Answer.{Answer}
 use Rattle.cell.specs.Cells.{level-of, tag-at}
+use Rattle.cell.proofs.Laws.{tag-level}
 use Rattle.cell.specs.Reading.{repeats, moved, gained, gained-by}
 use Rattle.inserter.specs.declared.front.Front.{Front}
 use Rattle.inserter.specs.declared.front.Way.the-variants.{Forward}
@@ -26,10 +27,6 @@ use Rattle.inserter.specs.Meaning.{Meaning, resting}
 use Rattle.inserter.specs.Rules.{fits-as, rule-of, acknowledging, refaced, carried, shown-cell, takes, Places, Looked}
 use Rattle.inserter.proofs.Quiet.{quiet}
 use Rattle.host.specs.Playing.{lines, ready, Asked, kept-of, Took, Gave, Given}
-
-tag-level : (t : Tag) → tag-at (level-of t) ≡ t
-tag-level Data = refl
-tag-level Command = refl
 
 -- forward, with PeriphAck low and patience p
 abbrev waiting : ℕ → Front

@@ -7,7 +7,7 @@ use Prim.Native.Nat.{ℕ, zero, suc, _+_, _-_, _<_, _≤_}
 use native.Mathlib.Omega.{arith}
 use lib.Dec.{eqb, ltb}
 use lib.ListN.{length, take, drop, length-append}
-use Rattle.std.proofs.shelf.Tests.{cases-lt, cases-bool, lt-ltb, le-ltb, ltb-true, eq-eqb, and-parts, and-from, cond-true, cond-false}
+use Rattle.std.proofs.shelf.Tests.{cases-lt, cases-bool, lt-ltb, le-ltb, ltb-true, and-parts, cond-true, cond-false}
 use Rattle.cell.specs.declared.cells.Cell.{Cell}
 use Rattle.cell.specs.declared.cells.Kind.the-variants.{Count}
 use Rattle.cell.specs.declared.cells.Tag.the-variants.{Data, Command}
@@ -15,7 +15,7 @@ use Rattle.cell.specs.declared.cursor.Cursor.{Cursor}
 use Rattle.cell.specs.Cells.{kind-of}
 use Rattle.cell.specs.Reading.{cells, moved, moved-by, gained, reached, added}
 use Rattle.script.specs.Encoding.{run-cells, runs, text-cells}
-use Rattle.script.proofs.Spelling.{on-channel, text-added}
+use Rattle.script.proofs.Spelling.{on-channel, for-own, text-added}
 use Rattle.host.specs.Playing.{kept-of, kept}
 
 abbrev pub Steady : List Cell → Type 0
@@ -68,4 +68,4 @@ text-steady (x ∷ xs) = runs-steady 1 x xs (omega arith) (omega arith)
 pub text-kept : (c : ℕ) (text : List ℕ) → c < 8 → kept (on-channel c) (text-cells text) ≡ length text
 text-kept c text l =
     steady-kept c (on-channel c) (text-cells text) refl (text-steady text)
-    ∙ ap length (text-added c c text ∙ cond-true (eqb c c && ltb c 8) text [] (and-from (eqb c c) (ltb c 8) (eq-eqb c c refl) (lt-ltb c 8 l)))
+    ∙ ap length (text-added c c text ∙ for-own c text l)

@@ -44,9 +44,9 @@ none-told d script m told e = subst (λ x. So-far-told d script m x script m) (s
 module _ (d : ℕ) (script : List ℕ) (m : Meaning) (told : List Line) (rest : List ℕ) (m₁ : Meaning) (so : So-far-told d script m told rest m₁) where
   pub all-told : length rest ≡ 0 → Evening d script m told m₁
   all-told e = record {
-      lines = subst (λ x. Line-by-line d script m x m₁) (append-nil told) (so .lines [] m₁ (e, refl));
-      held = λ k. sym (append-nil (m₁ .held k)) ∙ so .held [] k ∙ ap (λ z. m .held k ++ texts-for script z k) (append-nil told)
-    }
+    lines = subst (λ x. Line-by-line d script m x m₁) (append-nil told) (so .lines [] m₁ (e, refl));
+    held = λ k. sym (append-nil (m₁ .held k)) ∙ so .held [] k ∙ ap (λ z. m .held k ++ texts-for script z k) (append-nil told);
+  }
 
   pub one-more-told : (line later : List ℕ) (r : Line) (m′ : Meaning) (told′ : List Line) → 0 < length rest → line ≡ first-line rest → later ≡ later-lines rest →
       Lined d line m₁ r m′ → told′ ≡ told ++ (r ∷ []) → So-far-told d script m told′ later m′
@@ -54,10 +54,10 @@ module _ (d : ℕ) (script : List ℕ) (m : Meaning) (told : List Line) (rest : 
       let l′ = subst (λ x. Lined d x m₁ r m′) el l in
       subst (λ x. So-far-told d script m x later m′) (sym et)
       (subst (λ x. So-far-told d script m (told ++ (r ∷ [])) x m′) (sym ea)
-        (record {
-          lines = λ rs m″ t. subst (λ x. Line-by-line d script m x m″) (sym (append-assoc told (r ∷ []) rs)) (so .lines (r ∷ rs) m″ (h, m′, l′, t));
-          held = λ rs k.
+      (record {
+        lines = λ rs m″ t. subst (λ x. Line-by-line d script m x m″) (sym (append-assoc told (r ∷ []) rs)) (so .lines (r ∷ rs) m″ (h, m′, l′, t));
+        held = λ rs k.
             ap (λ z. z ++ texts-for (later-lines rest) rs k) (one-held d (first-line rest) m₁ r m′ l′ k)
             ∙ append-assoc (m₁ .held k) (line-for (first-line rest) r k) (texts-for (later-lines rest) rs k)
-            ∙ so .held (r ∷ rs) k ∙ ap (λ z. m .held k ++ texts-for script z k) (sym (append-assoc told (r ∷ []) rs))
-        }))
+            ∙ so .held (r ∷ rs) k ∙ ap (λ z. m .held k ++ texts-for script z k) (sym (append-assoc told (r ∷ []) rs));
+      }))

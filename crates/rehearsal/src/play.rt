@@ -35,7 +35,7 @@ fn digit(letter: u8) -> u8 {
     }
 }
 
-pub fn answer<I: Inserter>(
+pub(crate) fn answer<I: Inserter>(
     rt: &LibcRuntime,
     inserter: &mut I,
     line: &[u8],

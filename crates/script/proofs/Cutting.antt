@@ -6,11 +6,9 @@ use mathlib.Core.Logic.{inl, inr}
 use Prim.Native.Nat.{ℕ, min, _+_, _-_, _<_, _≤_}
 use native.Mathlib.Nat.{le-refl, le-of-lt}
 use native.Mathlib.Omega.{arith}
-use native.Mathlib.Numerals.{add-one}
 use lib.Dec.{eqb}
 use lib.ListN.{length, take, drop, getD, drop-of-length-le, length-drop}
-use lib.Seq.{drop-cons}
-use Rattle.std.proofs.shelf.Lists.{take-more, take-all}
+use Rattle.std.proofs.shelf.Lists.{take-more, take-all, drop-more}
 use Rattle.std.proofs.shelf.Tests.{cases-lt, cond-true, cond-false}
 use Rattle.script.specs.Lines.{first-line, later-lines}
 
@@ -29,21 +27,18 @@ module _ (xs : List ℕ) (i : ℕ) (p : Passed xs i) where
       )
 
   module _ (h : i < length xs) where
-    next : drop i xs ≡ getD xs i 0 ∷ drop (i + 1) xs
-    next = drop-cons xs i 0 h ∙ ap (λ j. getD xs i 0 ∷ drop j xs) (sym (add-one i))
-
     pub here : eqb (getD xs i 0) 10 ≡ true → (take i xs ≡ first-line xs) × (drop (i + 1) xs ≡ later-lines xs)
     here t = (
-      sym (p .first ∙ ap (λ z. take i xs ++ first-line z) next ∙ ap (λ z. take i xs ++ z) (cond-true (eqb (getD xs i 0) 10) _ _ t) ∙ append-nil (take i xs)),
-      sym (p .later ∙ ap later-lines next ∙ cond-true (eqb (getD xs i 0) 10) _ _ t),
+      sym (p .first ∙ ap (λ z. take i xs ++ first-line z) (drop-more xs i 0 h) ∙ ap (λ z. take i xs ++ z) (cond-true (eqb (getD xs i 0) 10) _ _ t) ∙ append-nil (take i xs)),
+      sym (p .later ∙ ap later-lines (drop-more xs i 0 h) ∙ cond-true (eqb (getD xs i 0) 10) _ _ t),
     )
 
     pub on : eqb (getD xs i 0) 10 ≡ false → Passed xs (i + 1)
     on t =
         record {
-          first = p .first ∙ ap (λ z. take i xs ++ first-line z) next ∙ ap (λ z. take i xs ++ z) (cond-false (eqb (getD xs i 0) 10) _ _ t)
+          first = p .first ∙ ap (λ z. take i xs ++ first-line z) (drop-more xs i 0 h) ∙ ap (λ z. take i xs ++ z) (cond-false (eqb (getD xs i 0) 10) _ _ t)
               ∙ sym (append-assoc (take i xs) (getD xs i 0 ∷ []) (first-line (drop (i + 1) xs))) ∙ ap (λ z. z ++ first-line (drop (i + 1) xs)) (sym (take-more xs i 0 h));
-          later = p .later ∙ ap later-lines next ∙ cond-false (eqb (getD xs i 0) 10) _ _ t;
+          later = p .later ∙ ap later-lines (drop-more xs i 0 h) ∙ cond-false (eqb (getD xs i 0) 10) _ _ t;
         }
 
 -- a part to the end, as the code has it

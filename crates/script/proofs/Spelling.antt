@@ -35,6 +35,9 @@ on-channel c = record { channel = c; count = None }
 abbrev pub for : ℕ → ℕ → List ℕ → List ℕ
 for c k xs = cond (eqb k c && ltb k 8) xs []
 
+pub for-own : (c : ℕ) (xs : List ℕ) → c < 8 → for c c xs ≡ xs
+for-own c xs l = cond-true (eqb c c && ltb c 8) xs [] (and-from (eqb c c) (ltb c 8) (eq-eqb c c refl) (lt-ltb c 8 l))
+
 for-++ : (c k : ℕ) (xs ys : List ℕ) → for c k xs ++ for c k ys ≡ for c k (xs ++ ys)
 for-++ c k xs ys = go (eqb k c && ltb k 8)
   where
@@ -110,7 +113,7 @@ addresses c l = cond-false (ltb (128 + c) 128) _ _ (le-ltb (128 + c) 128 (omega 
 
 pub spells : (c : ℕ) (text : List ℕ) → c < 8 → Spells (caption-cells c text) c text
 spells c text l = record {
-  there = read c ∙ cond-true (eqb c c && ltb c 8) text [] (and-from (eqb c c) (ltb c 8) (eq-eqb c c refl) (lt-ltb c 8 l));
+  there = read c ∙ for-own c text l;
   nowhere-else = λ k ne. read k ∙ cond-false (eqb k c && ltb k 8) text [] (and-left (eqb k c) (ltb k 8) (ne-eqb k c ne));
   ends = ap (λ κ. reached (moved-by start κ) (cells (text-cells text))) (addresses c l) ∙ text-reached c text;
 }
