@@ -1,0 +1,5 @@
+mod Checking
+mod Placing
+mod Crowding
+mod Ordering
+mod Patching
