@@ -1,3 +1,4 @@
 pub mod Spelling
 mod Running
 mod Cutting
+mod Digiting
