@@ -1,16 +1,28 @@
-// Reads a script of captions from standard input and plays it to an inserter with lanes.
+// Reads a script of captions from standard input and plays it to an inserter of the chosen make, through a patch or not.
 mod options;
 mod report;
 
 use host::evening::play_script;
+use inserter::interface::Inserter;
 use lanes::Lanes;
 use lanes::LanesInserter;
+use options::Make;
 use options::Options;
+use options::Setup;
 use options::USAGE;
+use options::WrongDisplay;
 use options::parse;
+use patch::patch::Patch;
+use patch::patch::PatchInserter;
+use patch::table::Table;
+use pool::Pool;
+use pool::PoolInserter;
+use pool::record::Record;
+use refusal::Refusal;
 use refusal::RefusalDisplay;
 use report::print_channels;
 use report::print_lines;
+use report::print_setup;
 use std::env;
 use std::error::AnyError;
 use std::io::Read;
@@ -25,27 +37,82 @@ fn run(rt: &LibcRuntime) -> Result<(), AnyError> {
         words.push(word)?;
     }
     match parse(&words) {
-        Options::Help => {
+        Ok(Options::Help) => {
             print!(rt, "{USAGE}")?;
             Ok(())
         }
-        Options::Wrong => Err("bad arguments: try --help".into()),
-        Options::Places(places) => play(rt, places),
+        Ok(Options::Play(setup)) => play(rt, setup),
+        Err(wrong) => {
+            println!(rt, "bad arguments: {wrong}")?;
+            Err("bad arguments: try --help".into())
+        }
     }
 }
 
-fn play(rt: &LibcRuntime, places: u32) -> Result<(), AnyError> {
+// The table is asked for before anything is read or made: one that is refused carries no byte.
+fn play(rt: &LibcRuntime, setup: Setup) -> Result<(), AnyError> {
+    match setup.patch {
+        None => play_through(rt, setup, None),
+        Some(entries) => match Table::new(entries) {
+            Ok(table) => play_through(rt, setup, Some(table)),
+            Err(refusal) => refused(rt, refusal),
+        },
+    }
+}
+
+fn refused(rt: &LibcRuntime, refusal: Refusal) -> Result<(), AnyError> {
+    println!(rt, "{refusal}")?;
+    Err("nothing was sent".into())
+}
+
+fn play_through(rt: &LibcRuntime, setup: Setup, table: Option<Table>) -> Result<(), AnyError> {
     let heap = rt.alloc();
     let mut script = Vec::new(heap);
     let mut input = rt.stdin();
     let _ = input.read_to_end(&mut script)?;
-    let mut memory = vec![in heap; 0u8; 8 * places as usize]?;
-    if let Err(refusal) = Lanes::may_use(&memory, &[]) {
-        println!(rt, "{refusal}")?;
-        return Err("no lanes of so many places".into());
+    match setup.make {
+        Make::Lanes => {
+            let mut memory = vec![in heap; 0u8; 8 * setup.places as usize]?;
+            if let Err(refusal) = Lanes::may_use(&memory, &[]) {
+                return refused(rt, refusal);
+            }
+            print_setup(rt, setup)?;
+            patched(rt, Lanes::new(&mut memory, &[]), table, &script)
+        }
+        Make::Pool => {
+            let mut memory = vec![in heap; Record {
+                channel: 0,
+                byte: 0
+            }; setup.places as usize]?;
+            if let Err(refusal) = Pool::may_use(&memory, &[]) {
+                return refused(rt, refusal);
+            }
+            print_setup(rt, setup)?;
+            patched(rt, Pool::new(&mut memory, &[]), table, &script)
+        }
     }
-    let mut lanes = Lanes::new(&mut memory, &[]);
-    let told = play_script(heap, &mut lanes, &script)?;
+}
+
+// Through the table, where there is one.
+fn patched<I: Inserter + Drop>(
+    rt: &LibcRuntime,
+    inserter: I,
+    table: Option<Table>,
+    script: &[u8],
+) -> Result<(), AnyError> {
+    match table {
+        None => perform(rt, inserter, script),
+        Some(table) => perform(rt, Patch::new(inserter, &table), script),
+    }
+}
+
+// Plays the script to an inserter of any make, and prints what became of it.
+fn perform<I: Inserter + Drop>(
+    rt: &LibcRuntime,
+    mut inserter: I,
+    script: &[u8],
+) -> Result<(), AnyError> {
+    let told = play_script(rt.alloc(), &mut inserter, script)?;
     print_lines(rt, &told)?;
-    print_channels(rt, &lanes)
+    print_channels(rt, &inserter)
 }

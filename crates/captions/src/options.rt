@@ -1,77 +1,162 @@
 // What the program is asked to do.
+use script::digits::eight_digits;
+use std::fmt;
 
-pub const USAGE: &str = "captions: plays a script of captions to an inserter with eight lanes
+pub const USAGE: &str = "captions: plays a script of captions to a caption inserter
 
-usage: captions [--places N] < SCRIPT
+usage: captions [lanes | pool] [--places N] [--patch TABLE] < SCRIPT
 
-  --places N   each lane has N places, 1 to 65535 (4096 unless said)
-  --help       print this
+  lanes          each channel has its own places (this is so unless said)
+  pool           all channels share the places
+  --places N     each lane, or the pool, has N places, 1 to 65535 (4096 unless said)
+  --patch TABLE  eight different digits, 0 to 7: channel 0 is the inserter's channel of the
+                 first digit, channel 1 of the second, and so on
+  --help         print this
 
 A line of the script is CHANNEL TEXT: a channel, 0 to 7, a blank, and the bytes of a caption.
 Empty lines are passed over. A line that is no caption, or whose channel has no room for it, is
-reported with its number; nothing of it is sent, and the rest still runs.
+reported with its number; nothing of it is sent, and the rest still runs. Where the places or the
+table are refused, the refusal is printed with its number and nothing is sent at all.
 ";
+
+// How the inserter keeps its bytes.
+#[derive(Clone, Copy, PartialEq, Eq, Debug)]
+pub enum Make {
+    Lanes,
+    Pool,
+}
+
+// An evening: the inserter to play to.
+#[derive(Clone, Copy, PartialEq, Eq, Debug)]
+pub struct Setup {
+    pub make: Make,
+    pub places: u32,
+    // the entries of a patch table, which are not yet known to make one
+    pub patch: Option<[u8; 8]>,
+}
 
 #[derive(Clone, Copy, PartialEq, Eq, Debug)]
 pub enum Options {
     Help,
-    // play, with so many places in each lane
-    Places(u32),
-    Wrong,
+    Play(Setup),
 }
 
-// how many places a lane has unless the arguments say otherwise
+// Why the arguments are not understood.
+#[derive(Clone, Copy, PartialEq, Eq, Debug)]
+pub enum Wrong {
+    // a word that is no argument
+    Word,
+    // an argument that stands twice
+    Twice,
+    Places,
+    Patch,
+}
+
+pub impl fmt::Display for Wrong as WrongDisplay {
+    fn fmt<W: fmt::Write>(&self, f: &mut fmt::Formatter<W>) -> fmt::Result {
+        match self {
+            Wrong::Word => write!(f, "a word that is no argument"),
+            Wrong::Twice => write!(f, "an argument that stands twice"),
+            Wrong::Places => write!(f, "--places wants a number after it"),
+            Wrong::Patch => write!(f, "--patch wants eight digits after it"),
+        }
+    }
+}
+
+// how many places a lane or a pool has unless the arguments say otherwise
 const PLACES: u32 = 4096;
-// one place more than a lane may have: a larger number is refused as this one is, and asks for less memory
+// one place more than there may be: a larger number is refused as this one is, and asks for less memory
 const TOO_MANY: u32 = 65_536;
 
-// The words after the program's own name.
-pub(crate) fn parse(words: &[String]) -> Options {
-    match words.len() {
-        0 => Options::Places(PLACES),
-        1 if words[0].as_str() == "--help" => Options::Help,
-        2 if words[0].as_str() == "--places" => match words[1].as_str().parse::<u32>() {
-            Ok(n) => Options::Places(n.min(TOO_MANY)),
-            Err(_) => Options::Wrong,
-        },
-        _ => Options::Wrong,
+// What the words said so far, and whether the last of them wants another after it.
+#[derive(Clone, Copy)]
+struct Said {
+    make: Option<Make>,
+    places: Option<u32>,
+    patch: Option<[u8; 8]>,
+    wants: Wants,
+}
+
+#[derive(Clone, Copy)]
+enum Wants {
+    Nothing,
+    Places,
+    Patch,
+}
+
+impl Said {
+    fn heard(&mut self, word: &str) -> Result<(), Wrong> {
+        let wants = self.wants;
+        self.wants = Wants::Nothing;
+        match wants {
+            Wants::Nothing => self.argument(word),
+            Wants::Places => once(&mut self.places, places(word)?),
+            Wants::Patch => once(&mut self.patch, entries(word)?),
+        }
+    }
+
+    fn argument(&mut self, word: &str) -> Result<(), Wrong> {
+        match word {
+            "lanes" => once(&mut self.make, Make::Lanes),
+            "pool" => once(&mut self.make, Make::Pool),
+            "--places" => {
+                self.wants = Wants::Places;
+                Ok(())
+            }
+            "--patch" => {
+                self.wants = Wants::Patch;
+                Ok(())
+            }
+            _ => Err(Wrong::Word),
+        }
+    }
+
+    fn setup(self) -> Result<Setup, Wrong> {
+        match self.wants {
+            Wants::Places => Err(Wrong::Places),
+            Wants::Patch => Err(Wrong::Patch),
+            Wants::Nothing => Ok(Setup {
+                make: self.make.unwrap_or(Make::Lanes),
+                places: self.places.unwrap_or(PLACES),
+                patch: self.patch,
+            }),
+        }
     }
 }
 
-#[cfg(test)]
-mod tests {
-    use super::*;
-    use std::alloc::Global;
-    use std::test::*;
-
-    fn parsed(heap: Global, words: &[&str]) -> Result<Options, Fail> {
-        let mut all = Vec::new(heap);
-        for word in words {
-            all.push(String::from_str(heap, word)?)?;
-        }
-        Ok(parse(&all))
+// Keeps what an argument says, which it may do once.
+fn once<T: Copy>(said: &mut Option<T>, value: T) -> Result<(), Wrong> {
+    if said.is_some() {
+        return Err(Wrong::Twice);
     }
+    *said = Some(value);
+    Ok(())
+}
 
-    #[test]
-    fn arguments(rt: LibcRuntime) -> Result<(), Fail> {
-        let heap = rt.alloc();
-        check_eq(parsed(heap, &[])?, Options::Places(4096))?;
-        check_eq(parsed(heap, &["--help"])?, Options::Help)?;
-        check_eq(parsed(heap, &["--places", "1"])?, Options::Places(1))?;
-        check_eq(parsed(heap, &["--places", "0"])?, Options::Places(0))?;
-        check_eq(
-            parsed(heap, &["--places", "65535"])?,
-            Options::Places(65_535),
-        )?;
-        check_eq(
-            parsed(heap, &["--places", "4000000000"])?,
-            Options::Places(65_536),
-        )?;
-        check_eq(parsed(heap, &["--places", "4294967296"])?, Options::Wrong)?;
-        check_eq(parsed(heap, &["--places", "-1"])?, Options::Wrong)?;
-        check_eq(parsed(heap, &["--places", ""])?, Options::Wrong)?;
-        check_eq(parsed(heap, &["--places"])?, Options::Wrong)?;
-        check_eq(parsed(heap, &["--help", "--help"])?, Options::Wrong)?;
-        check_eq(parsed(heap, &["evening.txt"])?, Options::Wrong)
+fn places(word: &str) -> Result<u32, Wrong> {
+    match word.parse::<u32>() {
+        Ok(n) => Ok(n.min(TOO_MANY)),
+        Err(_) => Err(Wrong::Places),
     }
+}
+
+fn entries(word: &str) -> Result<[u8; 8], Wrong> {
+    eight_digits(word.as_bytes()).ok_or(Wrong::Patch)
+}
+
+// The words after the program's own name.
+pub(crate) fn parse(words: &[String]) -> Result<Options, Wrong> {
+    if words.len() == 1 && words[0].as_str() == "--help" {
+        return Ok(Options::Help);
+    }
+    let mut said = Said {
+        make: None,
+        places: None,
+        patch: None,
+        wants: Wants::Nothing,
+    };
+    for word in words {
+        said.heard(word.as_str())?;
+    }
+    Ok(Options::Play(said.setup()?))
 }

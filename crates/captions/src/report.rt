@@ -1,4 +1,6 @@
 // What was done, in print.
+use super::options::Make;
+use super::options::Setup;
 use host::deliver::UndeliveredDisplay;
 use host::line::Line;
 use inserter::interface::Inserter;
@@ -8,6 +10,19 @@ use listing::text;
 use script::lines::BadLineDisplay;
 use std::error::AnyError;
 use std::io;
+
+// What is played to.
+pub(crate) fn print_setup(rt: &LibcRuntime, setup: Setup) -> io::Result<()> {
+    let places = setup.places;
+    match setup.make {
+        Make::Lanes => println!(rt, "eight lanes of {places} places each")?,
+        Make::Pool => println!(rt, "a pool of {places} places")?,
+    }
+    if let Some(entries) = setup.patch {
+        println!(rt, "patch: channels 0 to 7 are the inserter's {entries:?}")?;
+    }
+    Ok(())
+}
 
 // Each line that was not sent, with its number and why, and then how many there were of each kind.
 pub(crate) fn print_lines(rt: &LibcRuntime, told: &[Line]) -> io::Result<()> {

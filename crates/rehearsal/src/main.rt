@@ -1,16 +1,28 @@
-// Plays a table of looks, drops and questions to lanes of three sizes, and prints each answer.
+// Plays a table of looks, drops and questions to lanes, to a pool and through two patches to both, and prints each answer.
 mod play;
+mod three;
 
 use cell::cells::Cell;
 use cell::cells::Tag;
 use lanes::Lanes;
 use lanes::LanesInserter;
-use play::answer;
-use script::lines::cut_line;
+use patch::patch::Patch;
+use patch::patch::PatchInserter;
+use patch::table::Table;
+use pool::Pool;
+use pool::PoolInserter;
+use pool::record::Record;
+use pool::record::RecordDebug;
 use std::error::AnyError;
 use std::io::Read;
+use three::play_three;
 
-// what each of the three offers
+// the patch that is looked at, and the one below it
+const OUTER: [u8; 8] = [3, 0, 7, 1, 6, 2, 5, 4];
+
+const INNER: [u8; 8] = [5, 2, 0, 4, 1, 7, 3, 6];
+
+// what each inserter offers
 const OFFERS: [Cell; 40] = [
     Cell {
         byte: 0x41,
@@ -179,27 +191,47 @@ fn main(rt: LibcRuntime) -> Result<(), AnyError> {
 }
 
 fn run(rt: &LibcRuntime) -> Result<(), AnyError> {
+    let Ok(outer) = Table::new(OUTER) else {
+        return Err("the outer table was refused".into());
+    };
+    let Ok(inner) = Table::new(INNER) else {
+        return Err("the inner table was refused".into());
+    };
+    rehearse(rt, &outer, &inner)
+}
+
+fn rehearse(rt: &LibcRuntime, outer: &Table, inner: &Table) -> Result<(), AnyError> {
     let mut table = Vec::new(rt.alloc());
     let mut input = rt.stdin();
     let _ = input.read_to_end(&mut table)?;
     let mut small = [1u8; 8];
     let mut middle = [2u8; 32];
     let mut large = [3u8; 1600];
+    let mut records = [Record {
+        channel: 9,
+        byte: 4,
+    }; 24];
+    let mut deep = [Record {
+        channel: 9,
+        byte: 5,
+    }; 300];
+    let mut lower = [6u8; 400];
     let mut a = Lanes::new(&mut small, &OFFERS);
     let mut b = Lanes::new(&mut middle, &OFFERS);
     let mut c = Lanes::new(&mut large, &OFFERS);
-    let mut rest = table.as_slice();
-    while !rest.is_empty() {
-        let (line, later) = cut_line(rest);
-        rest = later;
-        match line.first() {
-            Some(b'a') => answer(rt, &mut a, line)?,
-            Some(b'b') => answer(rt, &mut b, line)?,
-            Some(b'c') => answer(rt, &mut c, line)?,
-            _ => println!(rt, "?")?,
-        }
+    let rest = play_three(rt, &mut a, &mut b, &mut c, b'a', &table)?;
+    let mut d = Pool::new(&mut records, &OFFERS);
+    let mut e = Patch::new(Patch::new(Pool::new(&mut deep, &OFFERS), inner), outer);
+    let mut f = Patch::new(Patch::new(Lanes::new(&mut lower, &OFFERS), inner), outer);
+    let rest = play_three(rt, &mut d, &mut e, &mut f, b'd', rest)?;
+    if !rest.is_empty() {
+        return Err("the table has a line that is none".into());
     }
     println!(rt, "{small:?}")?;
     println!(rt, "{middle:?}")?;
+    println!(rt, "{records:?}")?;
+    let first = &deep[0..12];
+    println!(rt, "{first:?}")?;
+    println!(rt, "{lower:?}")?;
     Ok(())
 }

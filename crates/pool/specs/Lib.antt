@@ -1,0 +1,3 @@
+pub mod Pool
+pub mod PoolMeaning
+pub mod Making
