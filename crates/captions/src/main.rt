@@ -1,5 +1,4 @@
 // Reads a script of captions from standard input and plays it to an inserter of the chosen make, through a patch or not.
-mod options;
 mod report;
 
 use host::evening::play_script;

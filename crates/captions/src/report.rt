@@ -1,12 +1,12 @@
 // What was done, in print.
-use super::options::Make;
-use super::options::Setup;
 use host::deliver::UndeliveredDisplay;
 use host::line::Line;
 use inserter::interface::Inserter;
 use listing::held;
 use listing::hex;
 use listing::text;
+use options::Make;
+use options::Setup;
 use script::lines::BadLineDisplay;
 use std::error::AnyError;
 use std::io;

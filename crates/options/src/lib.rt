@@ -1,4 +1,4 @@
-// What the program is asked to do.
+// What the program is asked to do, by its arguments.
 use script::digits::eight_digits;
 use std::fmt;
 
@@ -145,7 +145,7 @@ fn entries(word: &str) -> Result<[u8; 8], Wrong> {
 }
 
 // The words after the program's own name.
-pub(crate) fn parse(words: &[String]) -> Result<Options, Wrong> {
+pub fn parse(words: &[String]) -> Result<Options, Wrong> {
     if words.len() == 1 && words[0].as_str() == "--help" {
         return Ok(Options::Help);
     }
@@ -159,4 +159,62 @@ pub(crate) fn parse(words: &[String]) -> Result<Options, Wrong> {
         said.heard(word.as_str())?;
     }
     Ok(Options::Play(said.setup()?))
+}
+
+#[cfg(test)]
+mod tests {
+    use super::*;
+    use std::alloc::Global;
+    use std::test::*;
+
+    fn parsed(heap: Global, words: &[&str]) -> Result<Result<Options, Wrong>, Fail> {
+        let mut all = Vec::new(heap);
+        for word in words {
+            all.push(String::from_str(heap, word)?)?;
+        }
+        Ok(parse(&all))
+    }
+
+    fn play(make: Make, places: u32, patch: Option<[u8; 8]>) -> Result<Options, Wrong> {
+        Ok(Options::Play(Setup {
+            make,
+            places,
+            patch,
+        }))
+    }
+
+    #[test]
+    fn arguments(rt: LibcRuntime) -> Result<(), Fail> {
+        let heap = rt.alloc();
+        check_eq(parsed(heap, &[])?, play(Make::Lanes, 4096, None))?;
+        check_eq(parsed(heap, &["--help"])?, Ok(Options::Help))?;
+        check_eq(parsed(heap, &["lanes"])?, play(Make::Lanes, 4096, None))?;
+        check_eq(
+            parsed(heap, &["--places", "0", "pool"])?,
+            play(Make::Pool, 0, None),
+        )?;
+        check_eq(
+            parsed(heap, &["--places", "4000000000"])?,
+            play(Make::Lanes, 65_536, None),
+        )?;
+        check_eq(
+            parsed(heap, &["pool", "--patch", "10325476", "--places", "65535"])?,
+            play(Make::Pool, 65_535, Some([1, 0, 3, 2, 5, 4, 7, 6])),
+        )?;
+        check_eq(
+            parsed(heap, &["--patch", "99999999"])?,
+            play(Make::Lanes, 4096, Some([9; 8])),
+        )?;
+        for bad in ["0123456", "012345678", "0123456a", ""] {
+            check_eq(parsed(heap, &["--patch", bad])?, Err(Wrong::Patch))?;
+        }
+        for bad in ["4294967296", "-1", "", "pool"] {
+            check_eq(parsed(heap, &["--places", bad])?, Err(Wrong::Places))?;
+        }
+        check_eq(parsed(heap, &["--places"])?, Err(Wrong::Places))?;
+        check_eq(parsed(heap, &["pool", "--patch"])?, Err(Wrong::Patch))?;
+        check_eq(parsed(heap, &["pool", "lanes"])?, Err(Wrong::Twice))?;
+        check_eq(parsed(heap, &["--help", "--help"])?, Err(Wrong::Word))?;
+        check_eq(parsed(heap, &["evening.txt"])?, Err(Wrong::Word))
+    }
 }
