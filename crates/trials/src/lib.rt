@@ -2,4 +2,8 @@
 #[cfg(test)]
 mod making;
 #[cfg(test)]
+mod tables;
+#[cfg(test)]
+mod through;
+#[cfg(test)]
 mod words;
