@@ -1,12 +1,11 @@
 // The patch over an inserter of any make, another patch too.
 ghost use mathlib.Core.Path.{_≡_};
-ghost use denote.Ref.{now};
 ghost use lib.Dec.{ltb};
-ghost use lib.ListN.{length};
-ghost use Rattle.inserter.specs.Meaning.{held-on, free-on, at-place, New};
+ghost use Rattle.inserter.specs.Meaning.{New};
 ghost use Rattle.inserter.specs.Rules.{Looked, Dropped, shown-cell};
 ghost use Rattle.patch.specs.Tables.{entry-of};
 ghost use Rattle.patch.specs.Patched.{told, patched};
+ghost use Rattle.patch.specs.PatchMeaning.{entries-of, means};
 use super::table::Table;
 use cell::cells::Cell;
 use cell::cells::Tag;
@@ -24,23 +23,23 @@ pub struct Patch<'t, I> {
 impl<'t, I: Inserter> Patch<'t, I> {
     // The inserter as it is, seen through the table.
     fn over(below: I, table: &'t Table) -> Patch<'t, I>
-        ensures { λ r. ⌜ patched (now (r .table) .entries) (I·Inserter .meaning (r .below)) ≡ patched (now (table .entry) .entries) (I·Inserter .meaning below) ⌝ }
+        ensures { λ r. ⌜ means (I·Inserter .meaning) r ≡ patched (now (table .entry) .entries) (I·Inserter .meaning below) ⌝ }
     {
         Patch { below, table }
     }
 
     // The inserter seen through the table. A new one is new through it as well.
     pub fn new(below: I, table: &'t Table) -> Patch<'t, I>
-        ensures patched { λ r. ⌜ patched (now (r .table) .entries) (I·Inserter .meaning (r .below)) ≡ patched (now (table .entry) .entries) (I·Inserter .meaning below) ⌝ }
-        ensures new { λ r. ⌜ (New (I·Inserter .delay) (I·Inserter .meaning below) → New (I·Inserter .delay) (patched (now (r .table) .entries) (I·Inserter .meaning (r .below)))) ⌝ }
+        ensures patched { λ r. ⌜ means (I·Inserter .meaning) r ≡ patched (now (table .entry) .entries) (I·Inserter .meaning below) ⌝ }
+        ensures new { λ r. ⌜ (New (I·Inserter .delay) (I·Inserter .meaning below) → New (I·Inserter .delay) (means (I·Inserter .meaning) r)) ⌝ }
     {
         Patch::over(below, table)
     }
 
     // Shows the lower inserter the lines, and the byte as the table has it told.
     fn show(&mut self, host: HostLines, byte: u8) -> Answer
-        ensures below { λ r. ⌜ Looked (I·Inserter .delay) (I·Inserter .meaning (now (self .entry) .below)) host (told (now (now (self .entry) .table) .entries) (shown-cell host byte)) (I·Inserter .meaning (now (self .exit) .below)) r ⌝ }
-        ensures table { λ _. ⌜ now (now (self .exit) .table) .entries ≡ now (now (self .entry) .table) .entries ⌝ }
+        ensures below { λ r. ⌜ Looked (I·Inserter .delay) (I·Inserter .meaning (now (self .entry) .below)) host (told (entries-of (now (self .entry))) (shown-cell host byte)) (I·Inserter .meaning (now (self .exit) .below)) r ⌝ }
+        ensures table { λ _. ⌜ entries-of (now (self .exit)) ≡ entries-of (now (self .entry)) ⌝ }
     {
         let cell = Cell {
             byte,
@@ -51,7 +50,7 @@ impl<'t, I: Inserter> Patch<'t, I> {
 
     // The lower one's channel. The eight channels are the eight below.
     fn lower(&self, channel: u8) -> u8
-        ensures entry { λ r. ⌜ r ≡ entry-of (now (now (self .entry) .table) .entries) channel ⌝ }
+        ensures entry { λ r. ⌜ r ≡ entry-of (entries-of (now (self .entry))) channel ⌝ }
         ensures eight { λ r. ⌜ ltb r 8 ≡ ltb channel 8 ⌝ }
     {
         self.table.entry(channel)
@@ -63,7 +62,7 @@ pub impl<I: Inserter> Inserter for Patch<'_, I> as PatchInserter {
 
     ghost delay = { I·Inserter .delay };
 
-    ghost meaning = { λ s. patched (now (s .table) .entries) (I·Inserter .meaning (s .below)) };
+    ghost meaning = { means (I·Inserter .meaning) };
 
     fn named_delay() -> u8
         ensures { λ r. ⌜ r ≡ I·Inserter .delay ⌝ }
@@ -73,17 +72,17 @@ pub impl<I: Inserter> Inserter for Patch<'_, I> as PatchInserter {
 
     // One look at the lower one, and the table stays.
     fn look(&mut self, host: HostLines, byte: u8) -> Answer
-        ensures looked { λ r. ⌜ Looked (I·Inserter .delay) (patched (now (now (self .entry) .table) .entries) (I·Inserter .meaning (now (self .entry) .below))) host byte (patched (now (now (self .exit) .table) .entries) (I·Inserter .meaning (now (self .exit) .below))) r ⌝ }
-        ensures below { λ r. ⌜ Looked (I·Inserter .delay) (I·Inserter .meaning (now (self .entry) .below)) host (told (now (now (self .entry) .table) .entries) (shown-cell host byte)) (I·Inserter .meaning (now (self .exit) .below)) r ⌝ }
-        ensures table { λ _. ⌜ now (now (self .exit) .table) .entries ≡ now (now (self .entry) .table) .entries ⌝ }
+        ensures looked { λ r. ⌜ Looked (I·Inserter .delay) (means (I·Inserter .meaning) (now (self .entry))) host byte (means (I·Inserter .meaning) (now (self .exit))) r ⌝ }
+        ensures below { λ r. ⌜ Looked (I·Inserter .delay) (I·Inserter .meaning (now (self .entry) .below)) host (told (entries-of (now (self .entry))) (shown-cell host byte)) (I·Inserter .meaning (now (self .exit) .below)) r ⌝ }
+        ensures table { λ _. ⌜ entries-of (now (self .exit)) ≡ entries-of (now (self .entry)) ⌝ }
     {
         self.show(host, byte)
     }
 
     fn drop_cable(&mut self) -> PeriphLines
-        ensures dropped { λ r. ⌜ Dropped (I·Inserter .delay) (patched (now (now (self .entry) .table) .entries) (I·Inserter .meaning (now (self .entry) .below))) (patched (now (now (self .exit) .table) .entries) (I·Inserter .meaning (now (self .exit) .below))) r ⌝ }
+        ensures dropped { λ r. ⌜ Dropped (I·Inserter .delay) (means (I·Inserter .meaning) (now (self .entry))) (means (I·Inserter .meaning) (now (self .exit))) r ⌝ }
         ensures below { λ r. ⌜ Dropped (I·Inserter .delay) (I·Inserter .meaning (now (self .entry) .below)) (I·Inserter .meaning (now (self .exit) .below)) r ⌝ }
-        ensures table { λ _. ⌜ now (now (self .exit) .table) .entries ≡ now (now (self .entry) .table) .entries ⌝ }
+        ensures table { λ _. ⌜ entries-of (now (self .exit)) ≡ entries-of (now (self .entry)) ⌝ }
     {
         self.below.drop_cable()
     }
