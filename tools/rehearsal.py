@@ -13,7 +13,7 @@ many bytes each channel holds.  Every run makes the same output.
 
 A line of a table is the letter of a set, a blank, and one of
     XYZ HH   a look: HostClk, HostAck and nReverseRequest (H or L), a byte
-    drop     the link is dropped
+    drop     the cable is dropped
     ask      what do the channels hold?
 """
 
@@ -93,7 +93,7 @@ class Pool:
 
 
 class Inserter:
-    """One end of the link, over a store of bytes."""
+    """The far end of the cable, over a store of bytes."""
 
     def __init__(self, store, offers):
         self.store = store

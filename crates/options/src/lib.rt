@@ -146,9 +146,6 @@ fn entries(word: &str) -> Result<[u8; 8], Wrong> {
 
 // The words after the program's own name.
 pub fn parse(words: &[String]) -> Result<Options, Wrong> {
-    if words.len() == 1 && words[0].as_str() == "--help" {
-        return Ok(Options::Help);
-    }
     let mut said = Said {
         make: None,
         places: None,
@@ -156,6 +153,9 @@ pub fn parse(words: &[String]) -> Result<Options, Wrong> {
         wants: Wants::Nothing,
     };
     for word in words {
+        if word.as_str() == "--help" {
+            return Ok(Options::Help);
+        }
         said.heard(word.as_str())?;
     }
     Ok(Options::Play(said.setup()?))
@@ -214,7 +214,7 @@ mod tests {
         check_eq(parsed(heap, &["--places"])?, Err(Wrong::Places))?;
         check_eq(parsed(heap, &["pool", "--patch"])?, Err(Wrong::Patch))?;
         check_eq(parsed(heap, &["pool", "lanes"])?, Err(Wrong::Twice))?;
-        check_eq(parsed(heap, &["--help", "--help"])?, Err(Wrong::Word))?;
+        check_eq(parsed(heap, &["pool", "--help"])?, Ok(Options::Help))?;
         check_eq(parsed(heap, &["evening.txt"])?, Err(Wrong::Word))
     }
 }

@@ -8,9 +8,9 @@ ghost use Rattle.inserter.specs.Rules.{Looked, Dropped};
 ghost use Rattle.pool.specs.Making.{pool-answer};
 ghost use Rattle.pool.specs.PoolMeaning.{means, memory, memory-after};
 
+mod by_channel;
 pub mod record;
 mod records;
-mod search;
 
 use cell::cells::Cell;
 use cell::cursor::Cursor;

@@ -5,9 +5,9 @@ ghost use lib.ListN.{length};
 ghost use denote.Ref.{now};
 ghost use Rattle.handshake.specs.Storage.{Grown};
 ghost use Rattle.pool.specs.Pool.{pool-limit, places, in-use, record-of, pooled, left, Stored, stored, stored-after};
+use super::by_channel::counted;
+use super::by_channel::found;
 use super::record::Record;
-use super::search::counted;
-use super::search::found;
 use handshake::spread::spread;
 use handshake::storage::Storage;
 

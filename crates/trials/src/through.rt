@@ -73,6 +73,31 @@ fn full_pool(rt: LibcRuntime) -> Result<(), Fail> {
     check_eq(records, want)
 }
 
+// The largest pool takes a caption of as many bytes as it has places, and then none.
+#[test]
+fn largest_pool(rt: LibcRuntime) -> Result<(), Fail> {
+    let heap = rt.alloc();
+    let mut records = vec![in heap; Record {
+        channel: 9,
+        byte: 0
+    }; 65_535]?;
+    if Pool::may_use(&records, &[]).is_err() {
+        return Err(Fail::new("the pool is refused"));
+    }
+    let mut script = vec![in heap; b'-'; 65_537]?;
+    script[0] = b'6';
+    script[1] = b' ';
+    let mut pool = Pool::new(&mut records, &[]);
+    check_eq(pool.free(2), 65_535)?;
+    let lengths = played(heap, &mut pool, &script)?;
+    check_eq(lengths, [0, 0, 0, 0, 0, 0, 65_535, 0])?;
+    let lengths = played(heap, &mut pool, b"0 -\n6 -\n")?;
+    check_eq(lengths, [0, 0, 0, 0, 0, 0, 65_535, 0])?;
+    check_eq(pool.byte_at(6, 65_534), Some(b'-'))?;
+    check_eq(pool.byte_at(6, 65_535), None)?;
+    check_eq(pool.free(2), 0)
+}
+
 // Channel k of the pile is the lower one's channel inner[outer[k]], with either make.
 #[test]
 fn two_deep(rt: LibcRuntime) -> Result<(), Fail> {

@@ -1,7 +1,7 @@
 use native.Mathlib.Omega.{arith}
 use Rattle.std.proofs.shelf.Ways.{tells}
 use Rattle.pool.proofs.Pooling.{one-more}
-use Rattle.pool.proofs.search.counted.Needs as need
+use Rattle.pool.proofs.by_channel.counted.Needs as need
 
 pub loop-i-again : need.loop-i-again
 loop-i-again c =

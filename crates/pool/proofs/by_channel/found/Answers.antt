@@ -2,7 +2,7 @@ use borrow.Author.Needs.{needs}
 use native.Mathlib.Omega.{arith}
 use Rattle.std.proofs.shelf.Ways.{tells}
 use Rattle.pool.proofs.Pooling.{one-more, there-it-is}
-use Rattle.pool.proofs.search.found.Needs as need
+use Rattle.pool.proofs.by_channel.found.Needs as need
 
 pub returns-then-passed-place : need.returns-then-passed-place
 returns-then-passed-place c = search (needs, there-it-is)

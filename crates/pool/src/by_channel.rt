@@ -1,4 +1,4 @@
-// Searching the records of a channel, in the order of arrival.
+// The records of one channel, in the order of arrival.
 ghost use mathlib.Core.Path.{_≡_};
 ghost use Prim.Native.Nat.{_≤_};
 ghost use lib.ListN.{length, take};
