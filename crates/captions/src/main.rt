@@ -9,8 +9,9 @@ use options::Make;
 use options::Options;
 use options::Setup;
 use options::USAGE;
+use options::Wrong;
 use options::WrongDisplay;
-use options::parse;
+use options::said::Said;
 use patch::patch::Patch;
 use patch::patch::PatchInserter;
 use patch::table::Table;
@@ -31,21 +32,26 @@ fn main(rt: LibcRuntime) -> Result<(), AnyError> {
 }
 
 fn run(rt: &LibcRuntime) -> Result<(), AnyError> {
-    let mut words = Vec::new(rt.alloc());
+    let mut said = Said::nothing();
     for word in env::args(rt)?.skip(1) {
-        words.push(word)?;
+        match said.heard(word.as_str()) {
+            Ok(more) => said = more,
+            Err(wrong) => return not_understood(rt, wrong),
+        }
     }
-    match parse(&words) {
+    match said.options() {
         Ok(Options::Help) => {
             print!(rt, "{USAGE}")?;
             Ok(())
         }
         Ok(Options::Play(setup)) => play(rt, setup),
-        Err(wrong) => {
-            println!(rt, "bad arguments: {wrong}")?;
-            Err("bad arguments: try --help".into())
-        }
+        Err(wrong) => not_understood(rt, wrong),
     }
+}
+
+fn not_understood(rt: &LibcRuntime, wrong: Wrong) -> Result<(), AnyError> {
+    println!(rt, "bad arguments: {wrong}")?;
+    Err("bad arguments: try --help".into())
 }
 
 // The table is asked for before anything is read or made: one that is refused carries no byte.

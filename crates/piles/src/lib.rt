@@ -5,7 +5,7 @@ ghost use Rattle.std.specs.Results.{Cases};
 ghost use Rattle.std.specs.declared.result.Result.the-variants.{Err};
 ghost use Rattle.lanes.specs.Making.{lanes-answer};
 ghost use Rattle.pool.specs.Making.{pool-answer};
-ghost use Rattle.piles.specs.Settling.{Settled};
+ghost use Rattle.piles.specs.Settling.{Settled, as-it-is, through};
 use cell::cells::Cell;
 use cell::lines::Answer;
 use cell::lines::HostLines;
@@ -27,7 +27,7 @@ pub fn settle_lanes(
     host: HostLines,
     byte: u8,
 ) -> Result<(Answer, Answer), Refusal>
-    ensures settled { λ r. ⌜ Cases r (λ a. Settled 0 (now (offers .entry)) host byte (a .0) (a .1)) (λ e. lanes-answer (length (now (bytes .entry))) (length (now (offers .entry))) ≡ Err e) ⌝ }
+    ensures settled { λ r. ⌜ Cases r (λ a. Settled 0 as-it-is (now (offers .entry)) host byte (a .0) (a .1)) (λ e. lanes-answer (length (now (bytes .entry))) (length (now (offers .entry))) ≡ Err e) ⌝ }
     ensures kept { λ r. ⌜ Cases r (λ _. Unit {0}) (λ _. now (bytes .exit) ≡ now (bytes .entry)) ⌝ }
 {
     Lanes::may_use(bytes, offers)?;
@@ -43,7 +43,7 @@ pub fn settle_pile(
     host: HostLines,
     byte: u8,
 ) -> Result<(Answer, Answer), Refusal>
-    ensures settled { λ r. ⌜ Cases r (λ a. Settled 2 (now (offers .entry)) host byte (a .0) (a .1)) (λ e. pool-answer (length (now (records .entry))) (length (now (offers .entry))) ≡ Err e) ⌝ }
+    ensures settled { λ r. ⌜ Cases r (λ a. Settled 2 (through (now (tables .entry .0) .entries) (now (tables .entry .1) .entries)) (now (offers .entry)) host byte (a .0) (a .1)) (λ e. pool-answer (length (now (records .entry))) (length (now (offers .entry))) ≡ Err e) ⌝ }
     ensures kept { λ r. ⌜ Cases r (λ _. Unit {0}) (λ _. now (records .exit) ≡ now (records .entry)) ⌝ }
 {
     Pool::may_use(records, offers)?;

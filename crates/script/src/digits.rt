@@ -2,7 +2,8 @@
 ghost use mathlib.Core.Path.{_≡_};
 ghost use Rattle.script.specs.Digits.{digit-of, eight-digits};
 
-fn digit(letter: u8) -> Option<u8>
+// The value of a decimal digit.
+pub fn digit(letter: u8) -> Option<u8>
     ensures { λ r. ⌜ r ≡ digit-of letter ⌝ }
 {
     if letter >= b'0' && letter <= b'9' {
