@@ -1,4 +1,6 @@
 // Reads a script of captions from standard input and plays it to an inserter of the chosen make, through a patch or not.
+#![tactic(auto)]
+
 mod report;
 
 use anyhow::anyhow;

@@ -1,4 +1,6 @@
 // The handshake of every make, in code once: a make is a storage under it.
+#![tactic(auto)]
+
 pub mod faces;
 pub mod limits;
 mod questions;

@@ -1,4 +1,6 @@
 // The lanes: an inserter that keeps its bytes in eight equal stretches of memory that it is lent.
+#![tactic(auto)]
+
 ghost use Rattle.std.specs.Prelude.{◌≡◌, ℕ, ◌/◌, ◌<◌, length, Ok};
 ghost use Rattle.inserter.specs.Meaning.{held_on, free_on, at_place, New};
 ghost use Rattle.inserter.specs.Rules.{Looked, Dropped};

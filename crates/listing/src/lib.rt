@@ -1,4 +1,6 @@
 // What a channel holds, for people to read.
+#![tactic(auto)]
+
 ghost use Rattle.std.specs.Prelude.{◌≡◌, ◌<◌, ◌++◌, IfOk, string_bytes, OnOk};
 ghost use Rattle.std.specs.Option.{option_to_list};
 ghost use Rattle.inserter.specs.Meaning.{at_place, held_on};

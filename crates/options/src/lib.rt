@@ -1,4 +1,6 @@
 // What the program is asked to do, by its arguments.
+#![tactic(auto)]
+
 pub mod said;
 mod words;
 

@@ -1,4 +1,6 @@
 // Makes, and a pile of patches over one, each looked at by the one function that is generic in the inserter.
+#![tactic(auto)]
+
 ghost use Rattle.std.specs.Prelude.{◌≡◌, length, Err, MatchResult, OnErr};
 ghost use Rattle.lanes.specs.Making.{lanes_answer};
 ghost use Rattle.pool.specs.Making.{pool_answer};

@@ -1,4 +1,6 @@
 // The pool: an inserter that keeps its bytes as records of channel and byte, in memory that it is lent and that all channels share.
+#![tactic(auto)]
+
 ghost use Rattle.std.specs.Prelude.{◌≡◌, ℕ, ◌<◌, length, Ok};
 ghost use Rattle.inserter.specs.Meaning.{New};
 ghost use Rattle.inserter.specs.Rules.{Looked, Dropped};

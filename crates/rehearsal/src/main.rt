@@ -1,4 +1,6 @@
 // Plays a table of looks, drops and questions to lanes, to a pool and through two patches to both, and prints each answer.
+#![tactic(auto)]
+
 mod play;
 mod three;
 

@@ -1,4 +1,6 @@
 // Tests on other cases than the proved ones.
+#![tactic(auto)]
+
 #[cfg(test)]
 mod making;
 #[cfg(test)]
