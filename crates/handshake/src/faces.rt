@@ -26,7 +26,7 @@ pub fn at_rest(delay: u8) -> Front
 impl<S: Storage> Handshake<'_, S> {
     // The front after a rule is carried out.
     pub(crate) fn front_after(&self, rule: Rule, delay: u8) -> Front
-        ensures { result ≡ faced rule delay (seen held free self.now).offers self.now.front }
+        ensures { result ≡ faced rule delay (seen S.held S.free self.now).offers self.now.front }
     {
         let front = self.front;
         match rule {
@@ -65,7 +65,7 @@ impl<S: Storage> Handshake<'_, S> {
 
     // The front with the first cell on offer on show.
     fn showing(&self) -> Front
-        ensures { result ≡ showing (seen held free self.now).offers self.now.front }
+        ensures { result ≡ showing (seen S.held S.free self.now).offers self.now.front }
     {
         if self.gone >= self.cells.len() {
             return self.front;
@@ -80,7 +80,7 @@ impl<S: Storage> Handshake<'_, S> {
     }
 
     pub(crate) fn lines(&self) -> PeriphLines
-        ensures { result ≡ lines_of (seen held free self.now) }
+        ensures { result ≡ lines_of (seen S.held S.free self.now) }
     {
         let front = self.front;
         PeriphLines {
@@ -93,7 +93,7 @@ impl<S: Storage> Handshake<'_, S> {
     }
 
     pub(crate) fn answer(&self) -> Answer
-        ensures { result ≡ answer_of (seen held free self.now) }
+        ensures { result ≡ answer_of (seen S.held S.free self.now) }
     {
         let byte = match self.front.shown {
             Some(cell) => cell.byte,

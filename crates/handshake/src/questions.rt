@@ -8,7 +8,7 @@ use super::storage::Storage;
 
 impl<S: Storage> Handshake<'_, S> {
     pub fn length(&self, channel: u8) -> u32
-        ensures { result ≡ length (held_on (seen held free self.now) channel) }
+        ensures { result ≡ length (held_on (seen S.held S.free self.now) channel) }
     {
         if channel < 8 {
             self.store.length_on(channel)
@@ -18,7 +18,7 @@ impl<S: Storage> Handshake<'_, S> {
     }
 
     pub fn byte_at(&self, channel: u8, place: u32) -> Option<u8>
-        ensures { result ≡ at_place (held_on (seen held free self.now) channel) place }
+        ensures { result ≡ at_place (held_on (seen S.held S.free self.now) channel) place }
     {
         if channel < 8 {
             self.store.byte_on(channel, place)
@@ -28,7 +28,7 @@ impl<S: Storage> Handshake<'_, S> {
     }
 
     pub fn free(&self, channel: u8) -> u32
-        ensures { result ≡ free_on (seen held free self.now) channel }
+        ensures { result ≡ free_on (seen S.held S.free self.now) channel }
     {
         if channel < 8 {
             self.store.free_on(channel)

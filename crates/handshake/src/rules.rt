@@ -14,14 +14,14 @@ use inserter::front::{Rule, Way};
 impl<S: Storage> Handshake<'_, S> {
     // Whether cells are still on offer.
     pub(crate) fn offering(&self) -> bool
-        ensures { result ≡ any (seen held free self.now).offers }
+        ensures { result ≡ any (seen S.held S.free self.now).offers }
     {
         self.gone < self.cells.len()
     }
 
     // Whether a cell with this tag fits as the reading stands.
     fn fitting(&self, tag: Tag) -> bool
-        ensures { result ≡ fits_as tag (seen held free self.now) }
+        ensures { result ≡ fits_as tag (seen S.held S.free self.now) }
     {
         match tag {
             Tag::Command => true,
@@ -32,7 +32,7 @@ impl<S: Storage> Handshake<'_, S> {
 
     // The first rule that applies.
     pub(crate) fn rule(&self, host: HostLines) -> Rule
-        ensures { result ≡ rule_of (seen held free self.now) host }
+        ensures { result ≡ rule_of (seen S.held S.free self.now) host }
     {
         match self.front.way {
             Way::Forward => self.forward_rule(host),
@@ -42,7 +42,7 @@ impl<S: Storage> Handshake<'_, S> {
 
     fn forward_rule(&self, host: HostLines) -> Rule
         requires { self.now.front.way ≡ Forward }
-        ensures { result ≡ rule_of (seen held free self.now) host }
+        ensures { result ≡ rule_of (seen S.held S.free self.now) host }
     {
         let ack = self.front.ack;
         if !host.nreverse && host.clk && !ack {
@@ -60,7 +60,7 @@ impl<S: Storage> Handshake<'_, S> {
 
     fn reverse_rule(&self, host: HostLines) -> Rule
         requires { self.now.front.way ≡ Reverse }
-        ensures { result ≡ rule_of (seen held free self.now) host }
+        ensures { result ≡ rule_of (seen S.held S.free self.now) host }
     {
         let shown = self.front.shown.is_some();
         if host.nreverse {

@@ -23,9 +23,9 @@ pub struct Handshake<'c, S> {
 impl<S: Storage> Handshake<'_, S> {
     // A cell that fits joins the reading.
     fn read(&mut self, cell: Cell)
-        requires { fits_as cell.tag (seen held free self.old) ≡ true }
-        ensures read { Read cell (seen held free self.old) (seen held free self.new) }
-        ensures memory { memory self.new.store ≡ remembered rewritten (stores self.old.cursor cell) (memory self.old.store) (seen held free self.old) cell.byte }
+        requires { fits_as cell.tag (seen S.held S.free self.old) ≡ true }
+        ensures read { Read cell (seen S.held S.free self.old) (seen S.held S.free self.new) }
+        ensures memory { S.memory self.new.store ≡ remembered S.rewritten (stores self.old.cursor cell) (S.memory self.old.store) (seen S.held S.free self.old) cell.byte }
     {
         let here = self.cursor;
         self.cursor = here.after(cell);
@@ -36,8 +36,8 @@ impl<S: Storage> Handshake<'_, S> {
 
     // The first cell on offer is no longer on offer.
     fn withdraw(&mut self)
-        ensures state { seen held free self.new ≡ withdrawn (seen held free self.old) }
-        ensures memory { memory self.new.store ≡ memory self.old.store }
+        ensures state { seen S.held S.free self.new ≡ withdrawn (seen S.held S.free self.old) }
+        ensures memory { S.memory self.new.store ≡ S.memory self.old.store }
     {
         if self.gone < self.cells.len() {
             self.gone += 1;
@@ -46,8 +46,8 @@ impl<S: Storage> Handshake<'_, S> {
 
     // A look: the first rule that applies is carried out, and the answer tells the lines and the byte.
     pub fn look(&mut self, delay: u8, host: HostLines, byte: u8) -> Answer
-        ensures looked { Looked delay (seen held free self.old) host byte (seen held free self.new) result }
-        ensures memory { memory self.new.store ≡ remembered rewritten (adds (seen held free self.old) host) (memory self.old.store) (seen held free self.old) byte }
+        ensures looked { Looked delay (seen S.held S.free self.old) host byte (seen S.held S.free self.new) result }
+        ensures memory { S.memory self.new.store ≡ remembered S.rewritten (adds (seen S.held S.free self.old) host) (S.memory self.old.store) (seen S.held S.free self.old) byte }
     {
         let rule = self.rule(host);
         let front = self.front_after(rule, delay);
@@ -65,8 +65,8 @@ impl<S: Storage> Handshake<'_, S> {
 
     // The cable is dropped: bytes, offers and memory stay.
     pub fn drop_cable(&mut self, delay: u8) -> PeriphLines
-        ensures dropped { Dropped delay (seen held free self.old) (seen held free self.new) result }
-        ensures memory { memory self.new.store ≡ memory self.old.store }
+        ensures dropped { Dropped delay (seen S.held S.free self.old) (seen S.held S.free self.new) result }
+        ensures memory { S.memory self.new.store ≡ S.memory self.old.store }
     {
         self.cursor = Cursor::start();
         self.front = at_rest(delay);

@@ -29,7 +29,7 @@ impl fmt::Display for Undelivered {
 
 // Whether a channel has a place for each byte of a text.
 fn has_room<I: Inserter>(inserter: &I, channel: Channel, text: &[u8]) -> bool
-    ensures { result ≡ nat_le (length text.now) ((meaning inserter.now).free channel.number) }
+    ensures { result ≡ nat_le (length text.now) ((I.meaning inserter.now).free channel.number) }
 {
     text.len() <= inserter.free(channel.number()) as usize
 }
@@ -41,7 +41,7 @@ pub fn deliver<I: Inserter>(
     channel: Channel,
     text: &[u8],
 ) -> Result<Played, Undelivered>
-    ensures { Delivers delay channel.number text.now (meaning inserter.old) result (meaning inserter.new) }
+    ensures { Delivers I.delay channel.number text.now (I.meaning inserter.old) result (I.meaning inserter.new) }
 {
     if !has_room(inserter, channel, text) {
         return Err(Undelivered::NoRoom);

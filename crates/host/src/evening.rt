@@ -14,7 +14,7 @@ fn note_line<I: Inserter>(
     inserter: &mut I,
     line: &[u8],
 ) -> Result<(), AllocError>
-    ensures { OnOk result (Noted delay line.now told.old.items (meaning inserter.old) told.new.items (meaning inserter.new)) }
+    ensures { OnOk result (Noted I.delay line.now told.old.items (I.meaning inserter.old) told.new.items (I.meaning inserter.new)) }
 {
     told.push(play_line(heap, inserter, line))?;
     Ok(())
@@ -27,7 +27,7 @@ pub fn play_script<I: Inserter>(
     inserter: &mut I,
     script: &[u8],
 ) -> Result<Vec<Line>, AllocError>
-    ensures { IfOk result (λ v. Evening delay script.now (meaning inserter.old) v.items (meaning inserter.new)) }
+    ensures { IfOk result (λ v. Evening I.delay script.now (I.meaning inserter.old) v.items (I.meaning inserter.new)) }
 {
     let mut told = Vec::new(heap);
     let mut rest = script;

@@ -20,7 +20,7 @@ pub enum Line {
 
 // Plays one line to an inserter of any make, which stays as it was unless a caption is sent.
 pub fn play_line<I: Inserter>(heap: Global, inserter: &mut I, line: &[u8]) -> Line
-    ensures { Lined delay line.now (meaning inserter.old) result (meaning inserter.new) }
+    ensures { Lined I.delay line.now (I.meaning inserter.old) result (I.meaning inserter.new) }
 {
     if line.is_empty() {
         return Line::Empty;

@@ -29,7 +29,7 @@ fn lines_with(cell: Cell, clk: bool) -> HostLines
 
 // How many looks a cell costs that is taken.
 fn cost<I: Inserter>() -> u128
-    ensures cost { result ≡ delay + 2 }
+    ensures cost { result ≡ I.delay + 2 }
     ensures small { result < 258 }
 {
     u128::from(I::named_delay()) + 2
@@ -37,8 +37,8 @@ fn cost<I: Inserter>() -> u128
 
 // Shows a cell with HostClk low for as many looks as the make's delay asks for, and says whether it was acknowledged.
 fn acknowledged<I: Inserter>(inserter: &mut I, cell: Cell) -> bool
-    requires { (meaning inserter.old).front ≡ resting delay }
-    ensures { Asked delay cell (meaning inserter.old) result (meaning inserter.new) }
+    requires { (I.meaning inserter.old).front ≡ resting I.delay }
+    ensures { Asked I.delay cell (I.meaning inserter.old) result (I.meaning inserter.new) }
 {
     let host = lines_with(cell, false);
     for _past in 0..I::named_delay() {
@@ -49,8 +49,8 @@ fn acknowledged<I: Inserter>(inserter: &mut I, cell: Cell) -> bool
 
 // Gives one cell to an inserter at rest, which takes it exactly where it fits.
 fn give<I: Inserter>(inserter: &mut I, cell: Cell) -> bool
-    requires { (meaning inserter.old).front ≡ resting delay }
-    ensures { Given delay cell (meaning inserter.old) result (meaning inserter.new) }
+    requires { (I.meaning inserter.old).front ≡ resting I.delay }
+    ensures { Given I.delay cell (I.meaning inserter.old) result (I.meaning inserter.new) }
 {
     let ready = acknowledged(inserter, cell);
     if ready {
@@ -61,7 +61,7 @@ fn give<I: Inserter>(inserter: &mut I, cell: Cell) -> bool
 
 // Drops the cable, so that the inserter is at rest whatever went before, and gives it the cells up to the first that does not fit.
 pub fn play<I: Inserter>(inserter: &mut I, cells: &[Cell]) -> Played
-    ensures { Plays delay (meaning inserter.old) cells.now (meaning inserter.new) result.taken result.looks }
+    ensures { Plays I.delay (I.meaning inserter.old) cells.now (I.meaning inserter.new) result.taken result.looks }
 {
     let each = cost::<I>();
     let mut looks = 0;

@@ -41,7 +41,7 @@ pub trait Inserter {
 
 // Looks twice at any inserter, as a host does that waits for an answer to settle.
 pub fn look_twice<I: Inserter>(inserter: &mut I, host: HostLines, byte: u8) -> (Answer, Answer)
-    ensures { LookedTwice I.Inserter.delay (I.Inserter.meaning inserter.old) host byte (I.Inserter.meaning inserter.new) result.0 result.1 }
+    ensures { LookedTwice I.delay (I.meaning inserter.old) host byte (I.meaning inserter.new) result.0 result.1 }
 {
     let first = inserter.look(host, byte);
     let second = inserter.look(host, byte);

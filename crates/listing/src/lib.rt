@@ -16,7 +16,7 @@ fn push_at<I: Inserter>(
     channel: u8,
     place: u32,
 ) -> Result<(), AllocError>
-    ensures { OnOk result (bytes.new.items ≡ bytes.old.items ++ option_to_list (at_place (held_on (meaning inserter.now) channel) place)) }
+    ensures { OnOk result (bytes.new.items ≡ bytes.old.items ++ option_to_list (at_place (held_on (I.meaning inserter.now) channel) place)) }
 {
     if let Some(byte) = inserter.byte_at(channel, place) {
         bytes.push(byte)?;
@@ -26,7 +26,7 @@ fn push_at<I: Inserter>(
 
 // The bytes that a channel holds, in order.
 pub fn held<I: Inserter>(heap: Global, inserter: &I, channel: u8) -> Result<Vec<u8>, AllocError>
-    ensures { IfOk result (λ v. v.items ≡ held_on (meaning inserter.now) channel) }
+    ensures { IfOk result (λ v. v.items ≡ held_on (I.meaning inserter.now) channel) }
 {
     let mut bytes = Vec::new(heap);
     for place in 0..inserter.length(channel) {

@@ -20,22 +20,22 @@ pub struct Patch<'t, I> {
 impl<'t, I: Inserter> Patch<'t, I> {
     // The inserter as it is, seen through the table.
     fn over(below: I, table: &'t Table) -> Patch<'t, I>
-        ensures { means I.Inserter.meaning result ≡ patched table.now.entries (I.Inserter.meaning below) }
+        ensures { means I.meaning result ≡ patched table.now.entries (I.meaning below) }
     {
         Patch { below, table }
     }
 
     // The inserter seen through the table. A new one is new through it as well.
     pub fn new(below: I, table: &'t Table) -> Patch<'t, I>
-        ensures patched { means I.Inserter.meaning result ≡ patched table.now.entries (I.Inserter.meaning below) }
-        ensures new { New I.Inserter.delay (I.Inserter.meaning below) → New I.Inserter.delay (means I.Inserter.meaning result) }
+        ensures patched { means I.meaning result ≡ patched table.now.entries (I.meaning below) }
+        ensures new { New I.delay (I.meaning below) → New I.delay (means I.meaning result) }
     {
         Patch::over(below, table)
     }
 
     // Shows the lower inserter the lines, and the byte as the table has it told.
     fn show(&mut self, host: HostLines, byte: u8) -> Answer
-        ensures below { Looked I.Inserter.delay (I.Inserter.meaning self.old.below) host (told (entries_of self.old) (shown_cell host byte)) (I.Inserter.meaning self.new.below) result }
+        ensures below { Looked I.delay (I.meaning self.old.below) host (told (entries_of self.old) (shown_cell host byte)) (I.meaning self.new.below) result }
         ensures table { entries_of self.new ≡ entries_of self.old }
     {
         let cell = Cell {
@@ -57,28 +57,28 @@ impl<'t, I: Inserter> Patch<'t, I> {
 impl<I: Inserter> Inserter for Patch<'_, I> {
     const DELAY: u8 = I::DELAY;
 
-    ghost delay = { I.Inserter.delay };
+    ghost delay = { I.delay };
 
-    ghost meaning = { means I.Inserter.meaning };
+    ghost meaning = { means I.meaning };
 
     fn named_delay() -> u8
-        ensures { result ≡ I.Inserter.delay }
+        ensures { result ≡ I.delay }
     {
         I::named_delay()
     }
 
     // One look at the lower one, and the table stays.
     fn look(&mut self, host: HostLines, byte: u8) -> Answer
-        ensures looked { Looked I.Inserter.delay (means I.Inserter.meaning self.old) host byte (means I.Inserter.meaning self.new) result }
-        ensures below { Looked I.Inserter.delay (I.Inserter.meaning self.old.below) host (told (entries_of self.old) (shown_cell host byte)) (I.Inserter.meaning self.new.below) result }
+        ensures looked { Looked I.delay (means I.meaning self.old) host byte (means I.meaning self.new) result }
+        ensures below { Looked I.delay (I.meaning self.old.below) host (told (entries_of self.old) (shown_cell host byte)) (I.meaning self.new.below) result }
         ensures table { entries_of self.new ≡ entries_of self.old }
     {
         self.show(host, byte)
     }
 
     fn drop_cable(&mut self) -> PeriphLines
-        ensures dropped { Dropped I.Inserter.delay (means I.Inserter.meaning self.old) (means I.Inserter.meaning self.new) result }
-        ensures below { Dropped I.Inserter.delay (I.Inserter.meaning self.old.below) (I.Inserter.meaning self.new.below) result }
+        ensures dropped { Dropped I.delay (means I.meaning self.old) (means I.meaning self.new) result }
+        ensures below { Dropped I.delay (I.meaning self.old.below) (I.meaning self.new.below) result }
         ensures table { entries_of self.new ≡ entries_of self.old }
     {
         self.below.drop_cable()

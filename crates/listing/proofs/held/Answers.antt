@@ -11,7 +11,7 @@ loop-place-preserved g c =
     let i = c.loop-place.place in
     let within : c.loop-place.place < length (held_on (g.I.Inserter.meaning c.args.inserter.now) c.args.channel) =
     omega (arith, c.length-place-end.ensures, c.loop-place-test.true) in
-    c.in-ok-push-at.ensures ∙ ap (λ z. z ++ option_to_list (at_place xs i)) c.loop-place.invariant ∙ ap (λ z. take i xs ++ option_to_list z) (byte_there xs i within) ∙ sym (take_more xs i 0 within)
+    c.in_ok-push_at.ensures ∙ ap (λ z. z ++ option_to_list (at_place xs i)) c.loop-place.invariant ∙ ap (λ z. take i xs ++ option_to_list z) (byte_there xs i within) ∙ sym (take_more xs i 0 within)
 
 pub returns : goal.returns
 returns g c =

@@ -9,9 +9,9 @@ loop-byte-preserved c =
     let first = c.digit.result in
     let second = c.digit-in-loop-byte.result in
     let b = get_or c.args.bytes.now c.loop-byte.byte-index 0 in
-    c.in-ok-push-2.ensures.bytes
-    ∙ ap (λ z. string_bytes c.push.new.self ++ z) (c.in-ok-push-2.ensures.ascii c.digit-in-loop-byte.ensures.ascii)
-    ∙ ap (λ z. z ++ (second ∷ [])) (c.in-ok-push.ensures.bytes ∙ ap (λ z. before ++ z) (c.in-ok-push.ensures.ascii c.digit.ensures.ascii))
+    c.in_ok-push-2.ensures.bytes
+    ∙ ap (λ z. string_bytes c.push.new.self ++ z) (c.in_ok-push-2.ensures.ascii c.digit-in-loop-byte.ensures.ascii)
+    ∙ ap (λ z. z ++ (second ∷ [])) (c.in_ok-push.ensures.bytes ∙ ap (λ z. before ++ z) (c.in_ok-push.ensures.ascii c.digit.ensures.ascii))
     ∙ append_assoc before (first ∷ []) (second ∷ [])
     ∙ ap (λ z. before ++ (z ∷ second ∷ [])) c.digit.ensures.is
     ∙ ap (λ z. before ++ (digit (b / 16) ∷ z ∷ [])) c.digit-in-loop-byte.ensures.is

@@ -7,19 +7,19 @@ use Rattle.script.proofs.digits.eight_digits.Goals as goal
 pub loop-i-init : goal.loop-i-init
 loop-i-init c = (λ j l. absurd (omega arith), search rules)
 
-pub returns-in-err-values : goal.returns-in-err-values
-returns-in-err-values c =
+pub returns-in_err-values : goal.returns-in_err-values
+returns-in_err-values c =
     let w = c.args.word.now in
     let eight = c.if-word-ne8.false in
-    c.from-residual.ensures
+    c.from_residual.ensures
     ∙ sym (cond-true (eqb (length w) 8) (digits_of w) _ (eq-eqb (length w) 8 eight)
-    ∙ none_at w c.loop-i.i (omega (arith, eight, c.loop-i-test.true)) (sym c.digit.ensures ∙ c.in-err-values.was))
+    ∙ none_at w c.loop-i.i (omega (arith, eight, c.loop-i-test.true)) (sym c.digit.ensures ∙ c.in_err-values.was))
 
 pub loop-i-preserved : goal.loop-i-preserved
 loop-i-preserved c =
     let l = c.loop-i in
-    let v = c.in-ok-values.field-0 in (
-      more c.args.word.now l.values l.i v (omega (arith, l.invariant.1, c.loop-i-test.true)) (sym c.digit.ensures ∙ c.in-ok-values.was) l.invariant.0,
+    let v = c.in_ok-values.field-0 in (
+      more c.args.word.now l.values l.i v (omega (arith, l.invariant.1, c.loop-i-test.true)) (sym c.digit.ensures ∙ c.in_ok-values.was) l.invariant.0,
       search rules,
     )
 

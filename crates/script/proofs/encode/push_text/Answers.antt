@@ -9,17 +9,17 @@ loop-i-preserved c =
     let n = c.loop-i.n in
     let b = c.loop-i.byte in
     let i = c.loop-i.i in
-    elim c.if-goes-on.branch [
-      | goal.then-goes-on w ↦
-          let on = sym w.if-goes-on.ensures in
+    elim c.if-goes_on.branch [
+      | goal.then-goes_on w ↦
+          let on = sym w.if-goes_on.ensures in
           let e = longer out _ n b text i c.loop-i.invariant.0 c.loop-i-test.true on in
           simp (w.n-is, w.byte-is, w.cells-is) (e, omega arith, omega (arith, short _ b n on))
-      | goal.else-goes-on+in-ok-push-run w ↦
-          let e = begins out _ n b text i c.loop-i.invariant.0 c.loop-i-test.true (vec_items w.push-run.new.cells) w.in-ok-push-run.ensures (sym w.if-goes-on.ensures) in
+      | goal.else-goes_on+in_ok-push_run w ↦
+          let e = begins out _ n b text i c.loop-i.invariant.0 c.loop-i-test.true (vec_items w.push_run.new.cells) w.in_ok-push_run.ensures (sym w.if-goes_on.ensures) in
           simp (w.n-is, w.byte-is, w.cells-is) (e, omega arith, omega arith)
     ]
 
 pub returns : goal.returns
 returns c =
-    c.in-ok-push-run-2.ensures
+    c.in_ok-push_run-2.ensures
     ∙ at_end (vec_items c.loop-i.cells) _ c.loop-i.n c.loop-i.byte c.args.text.now c.loop-i.i c.loop-i.invariant.0 c.loop-i-test.false

@@ -3,13 +3,13 @@ use Rattle.script.proofs.Cutting.{no_end, here, on, part}
 use Rattle.script.proofs.lines.cut_line.Goals as goal
 
 pub loop-i-preserved : goal.loop-i-preserved
-loop-i-preserved c = on c.args.script.now c.loop-i.i c.loop-i.invariant c.loop-i-test.true (sym c.if-ends-line.ensures)
+loop-i-preserved c = on c.args.script.now c.loop-i.i c.loop-i.invariant c.loop-i-test.true (sym c.if-ends_line.ensures)
 
-pub returns-then-ends-line : goal.returns-then-ends-line
-returns-then-ends-line c =
+pub returns-then-ends_line : goal.returns-then-ends_line
+returns-then-ends_line c =
     let xs = c.args.script.now in
     let i = c.loop-i.i in
-    let h = here xs i c.loop-i.invariant c.loop-i-test.true (sym c.if-ends-line.ensures) in
+    let h = here xs i c.loop-i.invariant c.loop-i-test.true (sym c.if-ends_line.ensures) in
     record {
       first = ap (λ j. take j xs) {x = i - 0} {y = i} (omega arith) ∙ h.0;
       later = part xs (i + 1) ∙ h.1;

@@ -6,4 +6,4 @@ use Rattle.queue.proofs.fifo.Queue.shift.Goals as goal
 pub returns : goal.returns
 returns c =
     let h = simp length-take at c.requires in
-    rw c.rotate-left.ensures.after (turned c.args.self.now.cells c.args.self.now.len (omega (arith, eqb-false)) (omega arith))
+    rw c.rotate_left.ensures.after (turned c.args.self.now.cells c.args.self.now.len (omega (arith, eqb-false)) (omega arith))
