@@ -12,5 +12,5 @@ returns g c =
     let channel = c.args.channel in
     let p = c.play.result in
     arrives d channel.number c.args.text.now channel.kept m (means c.play.new.inserter) p
-    (leb-true (length c.args.text.now) (m.free channel.number) (sym c.if-not-has-room.ensures))
+    (leb-true (length c.args.text.now) (m.free channel.number) (sym c.if-not-has_room.ensures))
     (subst (λ cs. Plays d m cs (means c.play.new.inserter) p.taken p.looks) (c.deref.ensures.value ∙ c.in-Ok.ensures.cells) c.play.ensures)

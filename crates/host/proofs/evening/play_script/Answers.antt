@@ -10,11 +10,11 @@ pub loop-rest-preserved : goal.loop-rest-preserved
 loop-rest-preserved g c =
     let means = g.I.Inserter.meaning in
     let rest = c.loop-rest.rest.now in
-    let noted = c.in-ok-note-line.ensures in
+    let noted = c.in_ok-note_line.ensures in
     let some : length c.loop-rest.rest.now ≡ 0 → ⊥ = eqb-false (length c.loop-rest.rest.now) 0 (sym c.loop-rest-test.ensures) in
     one_more_told g.I.Inserter.delay c.args.script.now (means c.args.inserter.now) (vec_items c.loop-rest.told) rest (means c.loop-rest.inserter) c.loop-rest.invariant
-    _ _ noted.0 (means c.note-line.new.inserter) (vec_items c.note-line.new.told)
-    (omega (arith, some)) c.cut-line.ensures.first c.cut-line.ensures.later noted.2 noted.1
+    _ _ noted.0 (means c.note_line.new.inserter) (vec_items c.note_line.new.told)
+    (omega (arith, some)) c.cut_line.ensures.first c.cut_line.ensures.later noted.2 noted.1
 
 pub returns : goal.returns
 returns g c =

@@ -6,10 +6,10 @@ use Rattle.host.proofs.play.play.Goals as goal
 
 pub loop-i-init : goal.loop-i-init
 loop-i-init g c =
-    (none_yet g.I.Inserter.delay (g.I.Inserter.meaning c.args.inserter.now) (g.I.Inserter.meaning c.drop-cable.new.self) c.args.cells.now c.drop-cable.ensures.state, sym (zero-mul _))
+    (none_yet g.I.Inserter.delay (g.I.Inserter.meaning c.args.inserter.now) (g.I.Inserter.meaning c.drop_cable.new.self) c.args.cells.now c.drop_cable.ensures.state, sym (zero-mul _))
 
-pub give_requires : goal.give_requires
-give_requires g c = c.loop-i.invariant.0.front
+pub give-requires : goal.give-requires
+give-requires g c = c.loop-i.invariant.0.front
 
 pub loop-i-preserved : goal.loop-i-preserved
 loop-i-preserved g c =
@@ -18,7 +18,7 @@ loop-i-preserved g c =
     let cs = c.args.cells.now in
     let i = c.loop-i.i in
     let m' = means c.give.new.inserter in (
-      one_more d (means c.drop-cable.new.self) cs i (means c.loop-i.inserter) c.loop-i.invariant.0 c.loop-i-test.true m'
+      one_more d (means c.drop_cable.new.self) cs i (means c.loop-i.inserter) c.loop-i.invariant.0 c.loop-i-test.true m'
           (subst (λ r. Gave r d (get_or cs i no_cell) (means c.loop-i.inserter) m') c.if-not-give.false c.give.ensures.gave),
       looks_more c.loop-i.looks i c.cost-each.result c.loop-i.invariant.1,
     )
@@ -31,11 +31,11 @@ returns-then-not-give g c =
     let i = c.loop-i.i in
     let m' = means c.give.new.inserter in
     let same = subst (λ r. Gave r d (get_or cs i no_cell) (means c.loop-i.inserter) m') c.if-not-give.true c.give.ensures.gave in
-    let so = subst (SoFar d (means c.drop-cable.new.self) cs i) (sym same) c.loop-i.invariant.0 in
-    played d (means c.drop-cable.new.self) cs i m' so (means c.args.inserter.now) _ c.loop-i.auto.i-end
+    let so = subst (SoFar d (means c.drop_cable.new.self) cs i) (sym same) c.loop-i.invariant.0 in
+    played d (means c.drop_cable.new.self) cs i m' so (means c.args.inserter.now) _ c.loop-i.auto.i-end
     (λ _. ap (fits_as (get_or cs i no_cell).tag) same ∙ sym c.give.ensures.answer ∙ c.if-not-give.true)
     (looks_stopped c.loop-i.looks i (length cs) d c.cost-each.result c.cost-each.ensures.cost c.loop-i.invariant.1 c.loop-i-test.true)
-    c.drop-cable.ensures.state
+    c.drop_cable.ensures.state
 
 pub returns : goal.returns
 returns g c =
@@ -45,7 +45,7 @@ returns g c =
     let i = c.loop-i.i in
     let m' = means c.loop-i.inserter in
     subst (λ n. Plays d (means c.args.inserter.now) cs m' n c.loop-i.looks) {x = i} {y = length cs} (omega arith)
-    (played d (means c.drop-cable.new.self) cs i m' c.loop-i.invariant.0 (means c.args.inserter.now) c.loop-i.looks c.loop-i.auto.i-end
+    (played d (means c.drop_cable.new.self) cs i m' c.loop-i.invariant.0 (means c.args.inserter.now) c.loop-i.looks c.loop-i.auto.i-end
     (λ s. absurd (omega arith))
     (looks_all c.loop-i.looks i (length cs) d c.cost-each.result c.cost-each.ensures.cost c.loop-i.invariant.1 c.loop-i-test.false)
-    c.drop-cable.ensures.state)
+    c.drop_cable.ensures.state)

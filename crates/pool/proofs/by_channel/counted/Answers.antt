@@ -6,7 +6,7 @@ use Rattle.pool.proofs.by_channel.counted.Goals as goal
 pub loop-i-preserved : goal.loop-i-preserved
 loop-i-preserved c =
     let e = one_more c.args.channel c.args.records.now c.loop-i.i (record { channel = 0; byte = 0 }) (omega arith) in
-    elim c.if-is-on.branch [
-      | goal.then-is-on w ↦ (grind (arith, nat_tests), omega arith)
-      | goal.else-is-on w ↦ (grind (arith, nat_tests), omega arith)
+    elim c.if-is_on.branch [
+      | goal.then-is_on w ↦ (grind (arith, nat_tests), omega arith)
+      | goal.else-is_on w ↦ (grind (arith, nat_tests), omega arith)
     ]

@@ -9,7 +9,7 @@ returns-then-passed-place c = search (rules, there_it_is)
 pub loop-i-preserved : goal.loop-i-preserved
 loop-i-preserved c =
     let e = one_more c.args.channel c.args.records.now c.loop-i.i (record { channel = 0; byte = 0 }) (omega arith) in
-    elim c.if-is-on.branch [
-      | goal.then-is-on+else-passed-place w ↦ (grind (arith, nat_tests), omega arith, omega arith)
-      | goal.else-is-on w ↦ (grind (arith, nat_tests), omega arith, omega arith)
+    elim c.if-is_on.branch [
+      | goal.then-is_on+else-passed-place w ↦ (grind (arith, nat_tests), omega arith, omega arith)
+      | goal.else-is_on w ↦ (grind (arith, nat_tests), omega arith, omega arith)
     ]

@@ -8,8 +8,8 @@ returns c =
     let s = a.self.now in
     let ys = c.spread.new.items in
     record {
-      grown = stored s.bytes.now s.lens a.channel a.n a.byte (search rules) c.requires.0 c.requires.1 ys c.next-place-at.result c.used-have.result
-          c.next-place-at.ensures c.used-have.ensures c.spread.ensures;
-      memory = memory s.bytes.now s.lens a.channel a.n a.byte (search rules) c.requires.0 c.requires.1 ys c.next-place-at.result c.used-have.result
-          c.next-place-at.ensures c.used-have.ensures c.spread.ensures;
+      grown = stored s.bytes.now s.lens a.channel a.n a.byte (search rules) c.requires.0 c.requires.1 ys c.next_place-at.result c.used-have.result
+          c.next_place-at.ensures c.used-have.ensures c.spread.ensures;
+      memory = memory s.bytes.now s.lens a.channel a.n a.byte (search rules) c.requires.0 c.requires.1 ys c.next_place-at.result c.used-have.result
+          c.next_place-at.ensures c.used-have.ensures c.spread.ensures;
     }
