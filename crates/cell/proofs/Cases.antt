@@ -1,7 +1,7 @@
 -- The worked cases.
-use Rattle.std.proofs.Common.{◌≡◌, ℕ, Bool, true, false, cond, ◌&&◌, eqb, ltb, List, [], ◌++◌, refl, ap, arith}
+use Rattle.std.proofs.Common.{◌≡◌, ℕ, cond, ◌&&◌, eqb, ltb, List, [], ◌++◌, refl, ap, arith}
 use Rattle.std.proofs.lemmas.Bool.Decides.{nat_tests}
-use Rattle.cell.specs.Cases.{Reads, WorkedCases}
+use Rattle.cell.specs.Cases.{WorkedCases}
 
 -- a channel other than the one that is read adds nothing
 other : (j k : ℕ) (xs : List ℕ) → (j ≡ k → ⊥) → cond (eqb j k && ltb j 8) xs [] ++ [] ≡ []

@@ -1,5 +1,5 @@
 -- Reading: what cells and marks put on each channel, and where the reading stands after them.
-use Rattle.std.specs.Prelude.{ℕ, ◌+◌, Bool, true, false, cond, ◌&&◌, List, [], ◌∷◌, ◌++◌, map, replicate, Some, None, Option, ◌==◌, nat_lt}
+use Rattle.std.specs.Prelude.{ℕ, ◌+◌, cond, ◌&&◌, List, [], ◌∷◌, ◌++◌, map, replicate, Some, None, Option, ◌==◌, nat_lt}
 use Rattle.cell.specs.declared.cells.Cell.{Cell}
 use Rattle.cell.specs.declared.cells.Kind.{Kind}
 use Rattle.cell.specs.declared.cells.Kind.TheVariants.{Byte, Count, Address}

@@ -1,18 +1,17 @@
 -- A look, put together from the rule that applies, what it does to the front, and what it does to reading and offers.
-use Rattle.std.proofs.Common.{◌≡◌, ℕ, Bool, true, false, cond, ◌&&◌, ltb, List, [], ◌∷◌, ◌++◌, sym, refl, ap, ◌∙◌, subst}
+use Rattle.std.proofs.Common.{◌≡◌, ℕ, false, cond, ◌&&◌, ltb, List, sym, refl, ap, ◌∙◌, subst}
 use mathlib.Core.Path.{fun_ext}
 use Rattle.cell.specs.declared.cells.Cell.{Cell}
 use Rattle.cell.specs.declared.cursor.Cursor.{Cursor}
 use Rattle.cell.specs.declared.lines.HostLines.{HostLines}
 use Rattle.cell.specs.declared.lines.Answer.{Answer}
-use Rattle.cell.specs.Cells.{level_of, tag_at}
 use Rattle.cell.proofs.Laws.{level_tag}
-use Rattle.cell.specs.Reading.{repeats, moved, gained}
+use Rattle.cell.specs.Reading.{repeats}
 use Rattle.inserter.specs.declared.front.Front.{Front}
 use Rattle.inserter.specs.declared.front.Rule.{Rule}
 use Rattle.inserter.specs.declared.front.Rule.TheVariants.{TurnForward, TurnReverse, Acknowledge, Take, Show, Release, Withdraw, Rest}
 use Rattle.inserter.specs.Meaning.{Meaning, answer_of}
-use Rattle.inserter.specs.Rules.{rule_of, faced, refaced, carried, shown_cell, takes, adds, adds_many, rest_of, Places, Looked}
+use Rattle.inserter.specs.Rules.{rule_of, faced, refaced, carried, shown_cell, takes, adds, Places, Looked}
 use Rattle.inserter.proofs.Quiet.{unmoved}
 use Rattle.handshake.specs.Seen.{Read, remembered, stores, withdrawn}
 

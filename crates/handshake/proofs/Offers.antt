@@ -1,11 +1,10 @@
 -- What is on offer is the list of cells without those that are gone.
-use Rattle.std.proofs.Common.{◌≡◌, ℕ, ◌+◌, ◌<◌, ◌≤◌, Bool, true, false, ltb, List, [], ◌∷◌, length, get_or, drop, sym, refl, ap, ◌∙◌, inl, inr, arith, drop_of_length-le}
+use Rattle.std.proofs.Common.{◌≡◌, ℕ, ◌+◌, ◌<◌, ◌≤◌, ltb, List, [], ◌∷◌, length, get_or, drop, sym, ap, ◌∙◌, inl, inr, drop_of_length-le}
 use Rattle.std.proofs.lemmas.List.{drop_more}
 use Rattle.std.proofs.lemmas.Bool.{cases_lt, lt-ltb, le-ltb}
 use Rattle.cell.specs.declared.cells.Cell.{Cell}
-use Rattle.inserter.specs.declared.front.Front.{Front}
 use Rattle.inserter.specs.Meaning.{Meaning, any}
-use Rattle.inserter.specs.Rules.{showing, rest_of}
+use Rattle.inserter.specs.Rules.{rest_of}
 
 module _ (cells : List Cell) (gone : ℕ) where
   -- one is left: it stands at the place that comes next

@@ -1,5 +1,5 @@
 -- What the handshake over a storage means.
-use Rattle.std.specs.Prelude.{◌≡◌, ℕ, Bool, true, false, cond, ◌&&◌, List, ◌++◌, length, drop, nat_lt}
+use Rattle.std.specs.Prelude.{◌≡◌, ℕ, Bool, cond, ◌&&◌, List, ◌++◌, length, drop, nat_lt}
 use Rattle.cell.specs.declared.cells.Cell.{Cell}
 use Rattle.cell.specs.declared.cursor.Cursor.{Cursor}
 use Rattle.cell.specs.Cells.{level_of}

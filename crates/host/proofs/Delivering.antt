@@ -1,16 +1,14 @@
 -- A caption that has room is taken whole.
-use Rattle.std.proofs.Common.{◌≡◌, ℕ, zero, suc, ◌+◌, ◌*◌, ◌<◌, ◌≤◌, Bool, true, false, cond, ◌&&◌, ◌||◌, ltb, leb, List, [], ◌∷◌, ◌++◌, length, get_or, take, drop, sym, refl, ap, ◌∙◌, subst, inl, inr, append-nil, arith}
+use Rattle.std.proofs.Common.{◌≡◌, ℕ, zero, suc, ◌+◌, ◌*◌, ◌<◌, ◌≤◌, false, ◌&&◌, ltb, leb, List, [], ◌∷◌, ◌++◌, length, get_or, take, drop, sym, refl, ap, ◌∙◌, subst, inl, inr, append-nil, arith}
 use Rattle.std.proofs.lemmas.List.{take_more, take-append-drop, take_all}
 use Rattle.std.proofs.lemmas.Bool.{true≢false, cases_lt, lt-ltb, le-ltb, leb-false, or_parts, and_from, cond-true, cond-false}
-use Rattle.cell.specs.declared.cells.Cell.{Cell}
 use Rattle.cell.specs.declared.cells.Tag.{Tag}
 use Rattle.cell.specs.declared.cells.Tag.TheVariants.{Data, Command}
-use Rattle.cell.specs.declared.cursor.Cursor.{Cursor}
 use Rattle.cell.specs.Cells.{level_of}
 use Rattle.cell.specs.Reading.{cells, start, repeats, moved_by, gained_by, reached, reading}
 use Rattle.inserter.specs.Meaning.{Meaning}
 use Rattle.inserter.specs.Rules.{fits_as}
-use Rattle.script.specs.Encoding.{text_cells, caption_cells, Spells}
+use Rattle.script.specs.Encoding.{text_cells, caption_cells}
 use Rattle.script.proofs.Spelling.{on_channel, addresses, spells}
 use Rattle.host.specs.declared.play.Played.{Played}
 use Rattle.host.specs.Playing.{no_cell, kept_of, kept, Plays}

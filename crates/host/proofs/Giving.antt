@@ -1,5 +1,5 @@
 -- Looks at an inserter at rest, one after the other.
-use Rattle.std.proofs.Common.{◌≡◌, ℕ, zero, suc, ◌+◌, ◌-◌, ◌<◌, ◌≤◌, Bool, true, false, cond, not, ◌&&◌, ◌||◌, eqb, ltb, List, [], ◌∷◌, ◌++◌, length, replicate, None, sym, refl, ap, ◌∙◌, subst, inl, inr, arith}
+use Rattle.std.proofs.Common.{◌≡◌, ℕ, ◌+◌, ◌-◌, ◌<◌, ◌≤◌, Bool, true, false, cond, ◌&&◌, eqb, ltb, [], length, replicate, None, sym, refl, ap, ◌∙◌, subst, inl, inr, arith}
 use lib.ListN.{length-replicate}
 use Rattle.std.proofs.lemmas.Bool.{false≢true, cases_eq, eq-eqb, ne_eqb, cond-true, cond-false}
 use Rattle.cell.specs.declared.cells.Cell.{Cell}
@@ -11,10 +11,9 @@ use Rattle.cell.specs.declared.lines.HostLines.{HostLines}
 use Rattle.cell.specs.declared.lines.Answer.{Answer}
 use Rattle.cell.specs.Cells.{level_of, tag_at}
 use Rattle.cell.proofs.Laws.{tag_level}
-use Rattle.cell.specs.Reading.{repeats, moved, gained, gained_by}
+use Rattle.cell.specs.Reading.{repeats, gained_by}
 use Rattle.inserter.specs.declared.front.Front.{Front}
 use Rattle.inserter.specs.declared.front.Way.TheVariants.{Forward}
-use Rattle.inserter.specs.declared.front.Rule.{Rule}
 use Rattle.inserter.specs.declared.front.Rule.TheVariants.{Acknowledge, Take, Rest}
 use Rattle.inserter.specs.Meaning.{Meaning, resting}
 use Rattle.inserter.specs.Rules.{fits_as, rule_of, acknowledging, refaced, carried, shown_cell, takes, Places, Looked}

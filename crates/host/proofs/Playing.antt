@@ -1,11 +1,11 @@
 -- Cells given one after the other.
-use Rattle.std.proofs.Common.{◌≡◌, ℕ, ◌+◌, ◌-◌, ◌*◌, ◌<◌, ◌≤◌, Bool, true, false, cond, ltb, List, [], ◌∷◌, ◌++◌, length, get_or, take, sym, refl, ap, ◌∙◌, subst, append_assoc, append-nil, add_assoc, add-mul, one-mul, zero-add, arith}
+use Rattle.std.proofs.Common.{◌≡◌, ℕ, ◌+◌, ◌-◌, ◌*◌, ◌<◌, ◌≤◌, false, cond, ltb, List, [], ◌∷◌, ◌++◌, length, get_or, take, sym, refl, ap, ◌∙◌, subst, append_assoc, append-nil, add_assoc, add-mul, one-mul, zero-add, arith}
 use mathlib.Core.List.{map-append}
 use Rattle.std.proofs.lemmas.List.{take_more}
 use Rattle.std.proofs.lemmas.Bool.{lt-ltb, le-ltb, cond-true, cond-false}
 use Rattle.cell.specs.declared.cells.Cell.{Cell}
 use Rattle.cell.specs.declared.cursor.Cursor.{Cursor}
-use Rattle.cell.specs.Reading.{cell, cells, start, moved, gained, reached, added, reading}
+use Rattle.cell.specs.Reading.{cell, cells, start, moved, gained, reached, reading}
 use Rattle.cell.proofs.Laws.{reached-++, added-++}
 use Rattle.inserter.specs.Meaning.{Meaning, resting}
 use Rattle.inserter.specs.Rules.{fits_as, fallen}

@@ -1,13 +1,11 @@
 -- A script, line by line.
-use Rattle.std.proofs.Common.{◌≡◌, ℕ, ◌<◌, cond, eqb, List, [], ◌∷◌, ◌++◌, length, sym, refl, ap, ◌∙◌, subst, inl, inr, append_assoc, append-nil}
+use Rattle.std.proofs.Common.{◌≡◌, ℕ, ◌<◌, eqb, List, [], ◌∷◌, ◌++◌, length, sym, refl, ap, ◌∙◌, subst, inl, inr, append_assoc, append-nil}
 use Rattle.std.proofs.lemmas.Bool.{cases_eq, eq-eqb, ne_eqb, cond-true, cond-false}
 use Rattle.inserter.specs.Meaning.{Meaning}
-use Rattle.script.specs.Lines.{first_line, later_lines, parsed}
+use Rattle.script.specs.Lines.{first_line, later_lines}
 use Rattle.host.specs.declared.line.Line.{Line}
 use Rattle.host.specs.declared.line.Line.TheVariants.{Empty, Bad, Unsent, Sent}
-use Rattle.host.specs.declared.deliver.Undelivered.{Undelivered}
 use Rattle.host.specs.declared.deliver.Undelivered.TheVariants.{NoRoom, NoMemory}
-use Rattle.host.specs.Delivering.{Delivers, Arrives}
 use Rattle.host.specs.Lines.{Lined}
 use Rattle.host.specs.Evening.{LineByLine, text_for, line_for, texts_for, Evening}
 

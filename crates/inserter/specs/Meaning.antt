@@ -6,7 +6,7 @@ use Rattle.cell.specs.declared.lines.PeriphLines.{PeriphLines}
 use Rattle.cell.specs.declared.lines.Answer.{Answer}
 use Rattle.cell.specs.Reading.{start}
 use Rattle.inserter.specs.declared.front.Front.{Front}
-use Rattle.inserter.specs.declared.front.Way.TheVariants.{Forward, Reverse}
+use Rattle.inserter.specs.declared.front.Way.TheVariants.{Forward}
 
 pub record Meaning : Type 0 where
   -- the bytes held on each channel, in order

@@ -1,5 +1,5 @@
 -- Eight equal stretches of one piece of memory, a lane for each channel.
-use Rattle.std.specs.Prelude.{ℕ, ◌+◌, ◌-◌, ◌*◌, ◌/◌, min, Bool, cond, List, length, take, drop, nat_lt, slice_index}
+use Rattle.std.specs.Prelude.{ℕ, ◌+◌, ◌-◌, ◌*◌, ◌/◌, min, cond, List, length, take, drop, nat_lt, slice_index}
 use Rattle.handshake.specs.Spread.{written}
 
 -- the most places that a lane may have

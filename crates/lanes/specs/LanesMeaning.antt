@@ -1,7 +1,6 @@
 -- What lanes mean, and the memory that they were lent.
-use Rattle.std.specs.Prelude.{ℕ, cond, List, length}
+use Rattle.std.specs.Prelude.{ℕ, List}
 use Rattle.cell.specs.declared.lines.HostLines.{HostLines}
-use Rattle.cell.specs.Reading.{repeats}
 use Rattle.inserter.specs.Meaning.{Meaning}
 use Rattle.inserter.specs.Rules.{adds}
 use Rattle.lanes.specs.declared.Lanes.{Lanes}

@@ -1,5 +1,5 @@
 -- What an address means. Addresses are hexadecimal.
-use Rattle.std.specs.Prelude.{ℕ, Bool, true, false, cond, ◌||◌, Ok, Err, Result, ◌==◌}
+use Rattle.std.specs.Prelude.{ℕ, Bool, cond, ◌||◌, Ok, Err, Result, ◌==◌}
 use Rattle.port_refusal.specs.declared.Refusal.{Refusal}
 use Rattle.port_refusal.specs.declared.Refusal.TheVariants.{Address, Access as NoAccess}
 use Rattle.modes.specs.declared.mode.Mode.{Mode}

@@ -1,5 +1,5 @@
 -- A table's entries are the eight channels in some order, so that it can be read both ways.
-use Rattle.std.proofs.Common.{◌≡◌, ℕ, ◌<◌, ◌≤◌, Bool, true, false, cond, ltb, leb, List, length, get_or, sym, refl, ap, ◌∙◌, subst, inl, inr, arith}
+use Rattle.std.proofs.Common.{◌≡◌, ℕ, ◌<◌, ◌≤◌, false, ltb, List, length, get_or, sym, ap, ◌∙◌, subst, inl, inr, arith}
 use Rattle.std.proofs.lemmas.Bool.{cases_lt, cond-true, cond-false, lt-ltb, le-ltb, leb-false}
 use Rattle.patch.specs.Tables.{any_high, any_alike, entry_of, place_of, channel_of}
 use Rattle.patch.proofs.Placing.{not_high, own_place}

@@ -1,5 +1,5 @@
 -- An array that is turned by one, and the list at its front.
-use Rattle.std.proofs.Common.{◌≡◌, ℕ, zero, suc, ◌-◌, ◌<◌, ◌≤◌, List, [], ◌∷◌, ◌++◌, length, take, drop, refl, arith}
+use Rattle.std.proofs.Common.{◌≡◌, ℕ, zero, suc, ◌-◌, ◌<◌, ◌≤◌, List, [], ◌∷◌, ◌++◌, length, take, drop, arith}
 use lib.Seq.{take-append-le}
 use Rattle.cell.specs.declared.cells.Cell.{Cell}
 use Rattle.queue.specs.Cells.{rest}

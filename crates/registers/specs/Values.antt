@@ -1,7 +1,6 @@
 -- The bytes that registers read as.
 use Rattle.std.specs.Prelude.{Bool, true, false, not, ℕ, ◌+◌, ◌*◌}
 use Rattle.cell.specs.declared.lines.PeriphLines.{PeriphLines}
-use Rattle.modes.specs.declared.mode.Mode.{Mode}
 use Rattle.modes.specs.declared.mode.Direction.{Direction}
 use Rattle.registers.specs.declared.values.Extended.{Extended}
 use Rattle.registers.specs.declared.config.Fields.{Fields}

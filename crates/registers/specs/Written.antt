@@ -1,5 +1,5 @@
 -- What a byte says that is written to a register.
-use Rattle.std.specs.Prelude.{Bool, true, false, cond, not, ◌||◌, ℕ, ◌/◌, ◌%◌, eqb}
+use Rattle.std.specs.Prelude.{Bool, not, ◌||◌, ℕ, ◌/◌, ◌%◌, eqb}
 use Rattle.registers.specs.declared.written.ControlBits.{ControlBits}
 use Rattle.registers.specs.declared.written.ExtendedBits.{ExtendedBits}
 use Rattle.registers.specs.declared.config.Fields.{Fields}

@@ -1,13 +1,11 @@
 -- The cells of a caption, read, give the caption.
-use Rattle.std.proofs.Common.{◌≡◌, ℕ, zero, suc, ◌+◌, ◌-◌, ◌<◌, ◌≤◌, Bool, true, false, cond, ◌&&◌, eqb, ltb, List, [], ◌∷◌, ◌++◌, map, replicate, Some, None, sym, refl, ap, ◌∙◌, inl, inr, append_assoc, append-nil, add-one, arith}
+use Rattle.std.proofs.Common.{◌≡◌, ℕ, zero, suc, ◌+◌, ◌-◌, ◌<◌, ◌≤◌, Bool, true, false, cond, ◌&&◌, eqb, ltb, List, [], ◌∷◌, ◌++◌, replicate, None, sym, refl, ap, ◌∙◌, inl, inr, append-nil, add-one, arith}
 use mathlib.Core.List.{map-append}
 use Rattle.std.proofs.lemmas.Bool.{cases_lt, cases_Bool, lt-ltb, le-ltb, eqb-true, ltb-true, eq-eqb, ne_eqb, and_parts, and_from, and_left, cond-true, cond-false}
-use Rattle.cell.specs.declared.cells.Cell.{Cell}
 use Rattle.cell.specs.declared.cells.Kind.TheVariants.{Count, Address}
-use Rattle.cell.specs.declared.cells.Tag.TheVariants.{Data, Command}
 use Rattle.cell.specs.declared.cursor.Cursor.{Cursor}
 use Rattle.cell.specs.Cells.{kind_of}
-use Rattle.cell.specs.Reading.{Item, cell, cells, start, moved_by, gained_by, moved, gained, reached, added, reading}
+use Rattle.cell.specs.Reading.{cell, cells, start, moved_by, gained_by, moved, gained, reached, added, reading}
 use Rattle.cell.proofs.Laws.{reached-++, added-++}
 use Rattle.script.specs.Encoding.{data_cell, count_cell, address_cell, run_cells, runs, text_cells, caption_cells, Spells}
 

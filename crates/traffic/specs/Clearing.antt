@@ -1,10 +1,10 @@
 -- Clearing, and what a change of mode and a write of DCR do to what is on its way.
-use Rattle.std.specs.Prelude.{ℕ, ◌+◌, Bool, cond, List, [], ◌++◌, length, None, nat_lt}
+use Rattle.std.specs.Prelude.{ℕ, ◌+◌, Bool, cond, [], length, None, nat_lt}
 use Rattle.cell.specs.declared.lines.Answer.{Answer}
 use Rattle.modes.specs.declared.mode.Mode.{Mode}
 use Rattle.modes.specs.declared.mode.Mode.TheVariants.{Spp, Byte, Ecp, Test, Config}
 use Rattle.modes.specs.declared.mode.Direction.{Direction}
-use Rattle.modes.specs.declared.mode.Direction.TheVariants.{Out, In}
+use Rattle.modes.specs.declared.mode.Direction.TheVariants.{Out}
 use Rattle.modes.specs.Modes.{same}
 use Rattle.traffic.specs.declared.stage.Stage.TheVariants.{Idle}
 use Rattle.traffic.specs.Stages.{transmitter}

@@ -1,16 +1,16 @@
 -- What the record of traffic means: its fields, with the queue as a list.
-use Rattle.std.specs.Prelude.{ℕ, Bool, true, false, List, [], Some, None, Option}
+use Rattle.std.specs.Prelude.{ℕ, Bool, false, List, [], None, Option}
 use Rattle.cell.specs.declared.cells.Cell.{Cell}
 use Rattle.cell.specs.declared.lines.Answer.{Answer}
 use Rattle.cell.specs.declared.lines.PeriphLines.{PeriphLines}
 use Rattle.modes.specs.declared.mode.Mode.{Mode}
-use Rattle.modes.specs.declared.mode.Mode.TheVariants.{Spp, Byte, Ecp, Test, Config}
+use Rattle.modes.specs.declared.mode.Mode.TheVariants.{Spp}
 use Rattle.modes.specs.declared.mode.Direction.{Direction}
-use Rattle.modes.specs.declared.mode.Direction.TheVariants.{Out, In}
+use Rattle.modes.specs.declared.mode.Direction.TheVariants.{Out}
 use Rattle.modes.specs.Modes.{forwards, receives}
 use Rattle.queue.specs.Cells.{cells_of}
 use Rattle.traffic.specs.declared.stage.Stage.{Stage}
-use Rattle.traffic.specs.declared.stage.Stage.TheVariants.{Idle, Low, High, Asked}
+use Rattle.traffic.specs.declared.stage.Stage.TheVariants.{Idle}
 use Rattle.traffic.specs.declared.record.Traffic.{Traffic}
 
 pub record Flow : Type 0 where

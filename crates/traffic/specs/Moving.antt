@@ -1,8 +1,6 @@
 -- The port's half of a step: at most one move, and what is then shown on the cable.
 use Rattle.std.specs.Prelude.{ℕ, Bool, true, false, cond, not, ◌&&◌, List, [], ◌∷◌, ◌++◌}
 use Rattle.cell.specs.declared.cells.Cell.{Cell}
-use Rattle.cell.specs.declared.lines.HostLines.{HostLines}
-use Rattle.cell.specs.declared.lines.PeriphLines.{PeriphLines}
 use Rattle.cell.specs.Cells.{level_of, tag_at}
 use Rattle.modes.specs.declared.mode.Mode.{Mode}
 use Rattle.modes.specs.declared.mode.Mode.TheVariants.{Spp, Byte, Ecp, Test, Config}

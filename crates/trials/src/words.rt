@@ -32,13 +32,13 @@ fn lines_of_a_script(rt: HostRuntime) {
         };
         assert_eq!(rt; got, want);
     }
-    assert_eq!(rt; text_of(b"3 8 o'clock"), b"8 o'clock");
+    assert_eq!(rt; text_of(b"3 8 o'clock"), b"8 o'clock".as_slice());
     let (first, rest) = cut_line(b"one\n\ntwo");
-    assert_eq!(rt; first, b"one");
+    assert_eq!(rt; first, b"one".as_slice());
     let (second, rest) = cut_line(rest);
-    assert_eq!(rt; second, b"");
+    assert_eq!(rt; second, b"".as_slice());
     let (third, rest) = cut_line(rest);
-    assert_eq!(rt; third, b"two");
+    assert_eq!(rt; third, b"two".as_slice());
     assert_eq!(rt; rest.len(), 0);
 }
 

@@ -1,4 +1,4 @@
-use Rattle.std.proofs.Common.{◌≡◌, length, get_or, sym, ap, ◌∙◌, subst, zero-mul, arith}
+use Rattle.std.proofs.Common.{length, get_or, sym, ap, ◌∙◌, subst, zero-mul, arith}
 use Rattle.inserter.specs.Rules.{fits_as}
 use Rattle.host.specs.Playing.{Gave, Plays, no_cell}
 use Rattle.host.proofs.Playing.{SoFar, none_yet, one_more, played, looks_more, looks_stopped, looks_all}

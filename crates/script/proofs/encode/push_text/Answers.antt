@@ -1,4 +1,4 @@
-use Rattle.std.proofs.Common.{◌≡◌, vec_items, sym, ◌∙◌, arith}
+use Rattle.std.proofs.Common.{vec_items, sym, ◌∙◌, arith}
 use Rattle.script.proofs.Running.{at_end, longer, begins, short}
 use Rattle.script.proofs.encode.push_text.Goals as goal
 

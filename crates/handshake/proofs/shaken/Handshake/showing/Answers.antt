@@ -1,4 +1,4 @@
-use Rattle.std.proofs.Common.{sym, ap, ◌∙◌}
+use Rattle.std.proofs.Common.{sym, ap}
 use Rattle.cell.specs.declared.cells.Tag.TheVariants.{Data}
 use Rattle.handshake.proofs.Offers.{one_left, none_left}
 use Rattle.inserter.specs.Rules.{showing}
