@@ -46,7 +46,7 @@ impl<'a, 'c> Pool<'a, 'c> {
         ensures new { New 2 (means result) }
         ensures free { (k : ℕ) → k < 8 → (means result).free k ≡ length records.old }
         ensures offers { (means result).offers ≡ offers.now }
-        ensures memory { memory result ≡ record { records = records.entry.now; used = 0 } }
+        ensures memory { memory result ≡ record { records = records.old; used = 0 } }
     {
         let store = PoolRecords { records, used: 0 };
         Pool {

@@ -4,7 +4,6 @@ use cell::channel::Channel;
 use script::encode::encode;
 use script::lines::{BadLine, channel_of, cut_line, text_of};
 use std::alloc::Global;
-use std::process::Abort;
 use std::test::Fail;
 
 // a line, and its channel or why it is no caption
@@ -42,50 +41,18 @@ fn lines_of_a_script(rt: HostRuntime) {
     assert_eq!(rt; rest.len(), 0);
 }
 
-// A caption of n equal bytes has these cells after its address.
-fn run_of(rt: &impl Abort, heap: Global, n: usize, want: &[(u8, Tag)]) -> Result<(), Fail> {
-    let text = vec![in heap; b'-'; n]?;
-    let Some(channel) = Channel::new(6) else {
-        return Err(Fail::new("no channel"));
-    };
-    let cells = encode(heap, channel, &text)?;
-    assert_eq!(rt; cells.len(), want.len() + 1);
-    assert_eq!(rt;
-        cells.get(0).copied(),
-        Some(Cell {
-            byte: 0x86,
-            tag: Tag::Command,
-        })
-    );
-    for (i, (byte, tag)) in want.iter().enumerate() {
-        assert_eq!(rt;
-            cells.get(i + 1).copied(),
-            Some(Cell {
-                byte: *byte,
-                tag: *tag,
-            })
-        );
-    }
-    Ok(())
-}
-
-#[test]
-fn runs_of_equal_bytes(rt: HostRuntime) -> Result<(), Fail> {
-    let heap = rt.alloc();
-    run_of(&rt, heap, 0, &[])?;
-    run_of(&rt, heap, 1, &[(b'-', Tag::Data)])?;
-    run_of(&rt, heap, 2, &[(1, Tag::Command), (b'-', Tag::Data)])?;
-    run_of(&rt, heap, 127, &[(126, Tag::Command), (b'-', Tag::Data)])?;
-    run_of(&rt, heap, 128, &[(127, Tag::Command), (b'-', Tag::Data)])?;
-    run_of(
-        &rt,
-        heap,
+// how many equal bytes a caption has, and its cells after the address
+const RUNS: [(usize, &[(u8, Tag)]); 7] = [
+    (0, &[]),
+    (1, &[(b'-', Tag::Data)]),
+    (2, &[(1, Tag::Command), (b'-', Tag::Data)]),
+    (127, &[(126, Tag::Command), (b'-', Tag::Data)]),
+    (128, &[(127, Tag::Command), (b'-', Tag::Data)]),
+    (
         129,
         &[(127, Tag::Command), (b'-', Tag::Data), (b'-', Tag::Data)],
-    )?;
-    run_of(
-        &rt,
-        heap,
+    ),
+    (
         258,
         &[
             (127, Tag::Command),
@@ -95,5 +62,39 @@ fn runs_of_equal_bytes(rt: HostRuntime) -> Result<(), Fail> {
             (1, Tag::Command),
             (b'-', Tag::Data),
         ],
-    )
+    ),
+];
+
+// The cells of a caption of n equal bytes.
+fn run_of(heap: Global, n: usize) -> Result<Vec<Cell>, Fail> {
+    let text = vec![in heap; b'-'; n]?;
+    let Some(channel) = Channel::new(6) else {
+        return Err(Fail::new("no channel"));
+    };
+    Ok(encode(heap, channel, &text)?)
+}
+
+#[test]
+fn runs_of_equal_bytes(rt: HostRuntime) -> Result<(), Fail> {
+    for (n, want) in RUNS {
+        let cells = run_of(rt.alloc(), n)?;
+        assert_eq!(rt; cells.len(), want.len() + 1);
+        assert_eq!(rt;
+            cells.get(0).copied(),
+            Some(Cell {
+                byte: 0x86,
+                tag: Tag::Command,
+            })
+        );
+        for (i, (byte, tag)) in want.iter().enumerate() {
+            assert_eq!(rt;
+                cells.get(i + 1).copied(),
+                Some(Cell {
+                    byte: *byte,
+                    tag: *tag,
+                })
+            );
+        }
+    }
+    Ok(())
 }
