@@ -8,10 +8,10 @@ use Rattle.traffic.specs.declared.stage.Stage.TheVariants.{Idle, Low, High, Aske
 use Rattle.traffic.specs.Stages.{asks_with_room}
 use Rattle.traffic.specs.Fetching.{is_count, uncounted}
 
-pub length-uncounted-≤ : (q : List Cell) → length (uncounted q) ≤ length q
-length-uncounted-≤ [] = le_refl 0
-length-uncounted-≤ (c ∷ q) =
-    elim (is_count c) as (λ b. length (cond b (uncounted q) (c ∷ q)) ≤ length (c ∷ q)) [ true ↦ omega (arith, length-uncounted-≤ q) | false ↦ le_refl (length (c ∷ q)) ]
+pub uncounted_within : (q : List Cell) → length (uncounted q) ≤ length q
+uncounted_within [] = le_refl 0
+uncounted_within (c ∷ q) =
+    elim (is_count c) as (λ b. length (cond b (uncounted q) (c ∷ q)) ≤ length (c ∷ q)) [ true ↦ omega (arith, uncounted_within q) | false ↦ le_refl (length (c ∷ q)) ]
 
 pub room_left : (s : Stage) (q q' : List Cell) → length q' ≤ length q → asks_with_room s q ≡ true → asks_with_room s q' ≡ true
 room_left Idle q q' l r = refl
