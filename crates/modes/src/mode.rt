@@ -110,10 +110,7 @@ impl Mode {
     pub fn forwards(self, direction: Direction) -> bool
         ensures { result ≡ forwards self direction }
     {
-        match (self, direction) {
-            (Mode::Ecp, Direction::Out) => true,
-            _ => false,
-        }
+        self == Mode::Ecp && direction == Direction::Out
     }
 
     // Whether the queue faces outward, so that DMA fills it.
