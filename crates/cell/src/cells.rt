@@ -1,6 +1,8 @@
 // A cell is what the cable carries at a time: a byte and its tag.
 ghost use Rattle.std.specs.Prelude.{◌≡◌};
-ghost use Rattle.cell.specs.Cells.{kind_of, tag_at, level_of};
+ghost use Rattle.cell.specs.Cells.{kind_of, tag_at, level_of, sent_as, came_as};
+
+use super::lines::{Answer, Shown};
 
 // Whether a byte is data or a command. On the cable the tag is a line: high for data.
 #[derive(Clone, Copy, PartialEq, Eq, Debug)]
@@ -25,31 +27,58 @@ pub enum Kind {
     Address(u8),
 }
 
-impl Tag {
-    pub fn from_level(high: bool) -> Tag
-        ensures { result ≡ tag_at high }
-    {
+// From a line of the cable, and to one.
+impl From<bool> for Tag {
+    ghost from_gives = { λ high tag. tag ≡ tag_at high };
+
+    fn from(high: bool) -> Tag {
         if high { Tag::Data } else { Tag::Command }
     }
+}
 
-    pub fn level(self) -> bool
-        ensures { result ≡ level_of self }
-    {
-        match self {
+impl From<Tag> for bool {
+    ghost from_gives = { λ tag high. high ≡ level_of tag };
+
+    fn from(tag: Tag) -> bool {
+        match tag {
             Tag::Data => true,
             Tag::Command => false,
         }
     }
 }
 
-impl Cell {
-    pub fn kind(self) -> Kind
-        ensures { result ≡ kind_of self }
-    {
-        match self.tag {
-            Tag::Data => Kind::Byte(self.byte),
-            Tag::Command if self.byte < 128 => Kind::Count(self.byte),
-            Tag::Command => Kind::Address(self.byte - 128),
+impl From<Cell> for Kind {
+    ghost from_gives = { λ cell kind. kind ≡ kind_of cell };
+
+    fn from(cell: Cell) -> Kind {
+        match cell.tag {
+            Tag::Data => Kind::Byte(cell.byte),
+            Tag::Command if cell.byte < 128 => Kind::Count(cell.byte),
+            Tag::Command => Kind::Address(cell.byte - 128),
+        }
+    }
+}
+
+// The cell that goes out: the byte shown, tagged by HostAck.
+impl From<Shown> for Cell {
+    ghost from_gives = { λ shown cell. cell ≡ sent_as shown };
+
+    fn from(shown: Shown) -> Cell {
+        Cell {
+            byte: shown.byte,
+            tag: Tag::from(shown.lines.ack),
+        }
+    }
+}
+
+// The cell that comes back: the byte answered, tagged by PeriphAck.
+impl From<Answer> for Cell {
+    ghost from_gives = { λ answer cell. cell ≡ came_as answer };
+
+    fn from(answer: Answer) -> Cell {
+        Cell {
+            byte: answer.byte,
+            tag: Tag::from(answer.lines.ack),
         }
     }
 }

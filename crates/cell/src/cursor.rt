@@ -35,7 +35,7 @@ impl Cursor {
     pub fn after(self, cell: Cell) -> Cursor
         ensures { result ≡ moved self cell }
     {
-        match cell.kind() {
+        match Kind::from(cell) {
             Kind::Byte(_) => Cursor {
                 channel: self.channel,
                 count: None,

@@ -11,6 +11,13 @@ pub struct HostLines {
     pub nreverse: bool,
 }
 
+// What the host shows the far end: its lines and its byte.
+#[derive(Clone, Copy)]
+pub struct Shown {
+    pub lines: HostLines,
+    pub byte: u8,
+}
+
 // What the far end drives.
 #[derive(Clone, Copy, PartialEq, Eq, Debug)]
 pub struct PeriphLines {
@@ -26,7 +33,7 @@ pub struct PeriphLines {
     pub xflag: bool,
 }
 
-// What the far end answers to a look: its lines and its byte.
+// What the far end answers: its lines and its byte.
 #[derive(Clone, Copy, PartialEq, Eq, Debug)]
 pub struct Answer {
     pub lines: PeriphLines,
