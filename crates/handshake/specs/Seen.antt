@@ -3,19 +3,14 @@ use Rattle.std.specs.Prelude.{◌≡◌, ℕ, Bool, cond, ◌&&◌, List, ◌++�
 use Rattle.cell.specs.declared.cells.Cell.{Cell}
 use Rattle.cell.specs.declared.cursor.Cursor.{Cursor}
 use Rattle.cell.specs.Cells.{level_of}
-use Rattle.cell.specs.Reading.{start, repeats, moved, gained}
-use Rattle.inserter.specs.Meaning.{Meaning, resting}
+use Rattle.cell.specs.Reading.{repeats, moved, gained}
+use Rattle.inserter.specs.Meaning.{Meaning}
 use Rattle.inserter.specs.Rules.{Places, rest_of}
 use Rattle.handshake.specs.declared.shaken.Handshake.{Handshake}
 
 abbrev pub seen : {S : Type 0} → (S → ℕ → List ℕ) → (S → ℕ → ℕ) → Handshake S → Meaning
 seen held free s =
     record { held = held s.store; free = free s.store; cursor = s.cursor; offers = s.offers.now; front = s.front }
-
--- a new inserter over a storage that holds these bytes and has these places
-abbrev pub begun : ℕ → (ℕ → List ℕ) → (ℕ → ℕ) → List Cell → Meaning
-begun delay held free offers =
-    record { held = held; free = free; cursor = start; offers = offers; front = resting delay }
 
 -- whether a cell, read here, is stored: data for one of the eight channels
 abbrev pub stores : Cursor → Cell → Bool

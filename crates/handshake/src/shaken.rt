@@ -1,7 +1,9 @@
 // The state of every make: a storage for the bytes, and what the handshake has come to.
 ghost use Rattle.std.specs.Prelude.{◌≡◌, true};
+ghost use Rattle.cell.specs.Reading.{start};
+ghost use Rattle.inserter.specs.Meaning.{resting};
 ghost use Rattle.inserter.specs.Rules.{fits_as};
-ghost use Rattle.handshake.specs.Seen.{seen, begun, Read, remembered, stores, withdrawn};
+ghost use Rattle.handshake.specs.Seen.{seen, Read, remembered, stores, withdrawn};
 
 use super::faces::at_rest;
 use super::storage::Storage;
@@ -23,8 +25,10 @@ pub struct Handshake<'c, S> {
 impl<'c, S: Storage> Handshake<'c, S> {
     // A new make over a storage, offering these cells.
     pub fn new(store: S, offers: &'c [Cell]) -> Handshake<'c, S>
-        ensures meaning { seen S.held S.free result ≡ begun S.delay (S.held store) (S.free store) offers.now }
-        ensures memory { S.memory result.store ≡ S.memory store }
+        ensures store { result.store ≡ store }
+        ensures offers { result.offers.now ≡ offers.now }
+        ensures cursor { result.cursor ≡ start }
+        ensures front { result.front ≡ resting S.delay }
     {
         Handshake {
             store,
