@@ -7,13 +7,16 @@ use cell::lines::{Answer, PeriphLines, Shown};
 
 // An inserter of any make, by its meaning: whatever its contracts say of a meaning holds of every make.
 pub trait Inserter {
+    // The make's fixed delay: how many looks it lets pass before it acknowledges a cell.
+    const DELAY: u8;
+
     ghost delay: { ℕ };
 
     ghost meaning: { Self → Meaning };
 
-    // The make's fixed delay: how many looks it lets pass before it acknowledges a cell. A constant would not do, since no
-    // impl with a lifetime can be given one that clauses name.
-    fn delay() -> u8
+    // The delay again, for code that is generic in the make. No ghost member can stand for the constant itself: an impl for a
+    // type with a lifetime, as every make is one, cannot give both.
+    fn named_delay() -> u8
         ensures { result ≡ delay };
 
     // Shows the inserter what the host has on the cable; it does what the first rule that applies says, and answers.
