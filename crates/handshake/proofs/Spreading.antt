@@ -1,5 +1,5 @@
 -- Writing one item over and over.
-use Rattle.std.proofs.Common.{◌≡◌, ℕ, ◌+◌, ◌-◌, ◌≤◌, List, [], ◌∷◌, ◌++◌, length, refl, take, drop, replicate, leb, sym, subst, ap, ◌∙◌, append_assoc, add-zero, take-append-drop, arith, length-append, length-drop, length-take}
+use Rattle.std.proofs.Common.{◌≡◌, ℕ, ◌+◌, ◌-◌, ◌≤◌, List, [], ◌∷◌, ◌++◌, length, refl, take, drop, replicate, leb, sym, subst, ap, ◌∙◌, append_assoc, arith, length-append, length-drop, length-take}
 use lib.ListN.{length-replicate}
 use Rattle.std.proofs.lemmas.Bool.{cond-true, le-leb}
 use Rattle.std.proofs.lemmas.List.{drop-drop, take_at, drop_at, take-append-le, drop-append-le, take-take, drop-take, length-take-le}
@@ -24,9 +24,6 @@ written_over xs at n k x fits same ys len alike =
     put_mid-paste at k xs ys (replicate n x) n (alike ∙ ap (λ i. replicate i x) l) same (sym (length-replicate n x))
     ∙ paste_all xs at (replicate n x) n (sym (length-replicate n x))
     ∙ sym (cond-true (leb (at + n) (length xs)) _ xs (le-leb (at + n) (length xs) fits))
-
-pub written_none : {X : Type 0} (xs : List X) (at : ℕ) (x : X) → xs ≡ written xs at 0 x
-written_none xs at x = sym (simp add-zero (take-append-drop at xs))
 
 -- what is left of each part of the memory
 module _ {X : Type 0} (xs : List X) (at n : ℕ) (x : X) (fits : at + n ≤ length xs) where
