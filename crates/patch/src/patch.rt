@@ -1,14 +1,15 @@
 // The patch over an inserter of any make, another patch too.
 ghost use Rattle.std.specs.Prelude.{◌≡◌, nat_lt};
+ghost use Rattle.cell.specs.Cells.{sent_as};
 ghost use Rattle.inserter.specs.Meaning.{New};
-ghost use Rattle.inserter.specs.Rules.{Looked, Dropped, shown_cell};
+ghost use Rattle.inserter.specs.Rules.{Looked, Dropped};
 ghost use Rattle.patch.specs.Tables.{entry_of};
 ghost use Rattle.patch.specs.Patched.{told, patched};
 ghost use Rattle.patch.specs.PatchMeaning.{entries_of, means};
 
 use super::table::Table;
-use cell::cells::{Cell, Tag};
-use cell::lines::{Answer, HostLines, PeriphLines};
+use cell::cells::Cell;
+use cell::lines::{Answer, PeriphLines, Shown};
 use inserter::interface::Inserter;
 
 #[derive(Drop)]
@@ -28,21 +29,19 @@ impl<'t, I: Inserter> Patch<'t, I> {
     // The inserter seen through the table. A new one is new through it as well.
     pub fn new(below: I, table: &'t Table) -> Patch<'t, I>
         ensures patched { means I.meaning result ≡ patched table.now.entries (I.meaning below) }
-        ensures new { New I.delay (I.meaning below) → New I.delay (means I.meaning result) }
+        ensures new { New I.DELAY (I.meaning below) → New I.DELAY (means I.meaning result) }
     {
         Patch::over(below, table)
     }
 
-    // Shows the lower inserter the lines, and the byte as the table has it told.
-    fn show(&mut self, host: HostLines, byte: u8) -> Answer
-        ensures below { Looked I.delay (I.meaning self.old.below) host (told (entries_of self.old) (shown_cell host byte)) (I.meaning self.new.below) result }
-        ensures table { entries_of self.new ≡ entries_of self.old }
+    // What is shown below: the same lines, and the byte as the table has it told.
+    fn told(&self, shown: Shown) -> Shown
+        ensures { result ≡ record shown { byte = told (entries_of self.now) (sent_as shown) } }
     {
-        let cell = Cell {
-            byte,
-            tag: Tag::from_level(host.ack),
-        };
-        self.below.look(host, self.table.told(cell))
+        Shown {
+            byte: self.table.told(Cell::from(shown)),
+            ..shown
+        }
     }
 
     // The lower one's channel. The eight channels are the eight below.
@@ -55,30 +54,29 @@ impl<'t, I: Inserter> Patch<'t, I> {
 }
 
 impl<I: Inserter> Inserter for Patch<'_, I> {
-    const DELAY: u8 = I::DELAY;
-
-    ghost delay = { I.delay };
+    ghost DELAY = { I.DELAY };
 
     ghost meaning = { means I.meaning };
 
-    fn named_delay() -> u8
-        ensures { result ≡ I.delay }
+    fn delay() -> u8
+        ensures { result ≡ I.DELAY }
     {
-        I::named_delay()
+        I::delay()
     }
 
     // One look at the lower one, and the table stays.
-    fn look(&mut self, host: HostLines, byte: u8) -> Answer
-        ensures looked { Looked I.delay (means I.meaning self.old) host byte (means I.meaning self.new) result }
-        ensures below { Looked I.delay (I.meaning self.old.below) host (told (entries_of self.old) (shown_cell host byte)) (I.meaning self.new.below) result }
+    fn look(&mut self, shown: Shown) -> Answer
+        ensures looked { Looked I.DELAY (means I.meaning self.old) shown.lines shown.byte (means I.meaning self.new) result }
+        ensures below { Looked I.DELAY (I.meaning self.old.below) shown.lines (told (entries_of self.old) (sent_as shown)) (I.meaning self.new.below) result }
         ensures table { entries_of self.new ≡ entries_of self.old }
     {
-        self.show(host, byte)
+        let told = self.told(shown);
+        self.below.look(told)
     }
 
     fn drop_cable(&mut self) -> PeriphLines
-        ensures dropped { Dropped I.delay (means I.meaning self.old) (means I.meaning self.new) result }
-        ensures below { Dropped I.delay (I.meaning self.old.below) (I.meaning self.new.below) result }
+        ensures dropped { Dropped I.DELAY (means I.meaning self.old) (means I.meaning self.new) result }
+        ensures below { Dropped I.DELAY (I.meaning self.old.below) (I.meaning self.new.below) result }
         ensures table { entries_of self.new ≡ entries_of self.old }
     {
         self.below.drop_cable()

@@ -11,16 +11,17 @@ use refusal::Refusal;
 #[derive(Clone, Copy)]
 pub struct Table {
     entries: [u8; 8],
-    ghost low: { any_high entries ≡ false },
-    ghost apart: { any_alike entries ≡ false },
+    ghost allowed: { table_answer entries ≡ Ok tt },
     ghost eight: { length entries ≡ 8 },
 }
 
-impl Table {
-    // The table of these entries, or why there is none.
-    pub fn new(entries: [u8; 8]) -> Result<Table, Refusal>
-        ensures { MatchResult result (λ t. (table_answer entries ≡ Ok tt) × (t.entries ≡ entries)) (λ e. table_answer entries ≡ Err e) }
-    {
+// The table of these entries, or why there is none.
+impl TryFrom<[u8; 8]> for Table {
+    type Error = Refusal;
+
+    ghost try_from_gives = { λ entries result. MatchResult result (λ t. (table_answer entries ≡ Ok tt) × (t.entries ≡ entries)) (λ e. table_answer entries ≡ Err e) };
+
+    fn try_from(entries: [u8; 8]) -> Result<Table, Refusal> {
         if any_high(&entries) {
             return Err(Refusal::EntryRange);
         }
@@ -29,13 +30,15 @@ impl Table {
         }
         Ok(Table { entries })
     }
+}
 
+impl Table {
     // The channel that a channel is below.
     pub fn entry(&self, channel: u8) -> u8
         ensures { result ≡ entry_of self.now.entries channel }
     {
         if channel < 8 {
-            self.entries[channel as usize]
+            self.entries[usize::from(channel)]
         } else {
             channel
         }
@@ -45,7 +48,7 @@ impl Table {
     pub fn told(&self, cell: Cell) -> u8
         ensures { result ≡ told self.now.entries cell }
     {
-        match cell.kind() {
+        match Kind::from(cell) {
             Kind::Address(channel) if channel < 8 => 128 + self.entry(channel),
             _ => cell.byte,
         }
@@ -67,10 +70,8 @@ impl Table {
 fn place_of(entries: &[u8; 8], wanted: u8) -> u8
     ensures { result ≡ place_of entries.now wanted }
 {
-    for place in 0..8u8 {
-        if entries[place as usize] == wanted {
-            return place;
-        }
+    match entries.iter().position(|&entry| entry == wanted) {
+        Some(place) => place as u8,
+        None => 8,
     }
-    8
 }

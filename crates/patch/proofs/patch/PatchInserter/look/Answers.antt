@@ -1,20 +1,13 @@
-use Rattle.std.proofs.Common.{sym, subst}
+use Rattle.std.proofs.Common.{subst}
 use Rattle.inserter.specs.Rules.{Looked}
-use Rattle.patch.specs.Patched.{patched}
 use Rattle.patch.proofs.Patching.{looked}
 use Rattle.patch.proofs.patch.PatchInserter.look.Goals as goal
 
-pub returns : goal.returns
-returns g c =
+pub returns-clause-looked : goal.returns-clause-looked
+returns-clause-looked g c =
     let s = c.args.self.now in
-    let t = s.table.now in
-    let d = g.I.Inserter.delay in
+    let shown = c.args.shown in
+    let d = g.I.Inserter.DELAY in
     let m = g.I.Inserter.meaning s.below in
-    let m' = g.I.Inserter.meaning c.show.new.self.below in
-    let e = c.show.ensures in
-    record {
-      looked = subst (λ es. Looked d (patched t.entries m) c.args.host c.args.byte (patched es m') c.show.result) (sym e.table)
-          (looked t.entries t.eight t.low t.apart d m c.args.host c.args.byte m' c.show.result e.below);
-      below = e.below;
-      table = e.table;
-    }
+    let m' = g.I.Inserter.meaning c.look.new.self in
+    looked s.table.now d m shown.lines shown.byte m' c.look.result (subst (λ x. Looked d m x.lines x.byte m' c.look.result) c.told-told.ensures c.look.ensures)
