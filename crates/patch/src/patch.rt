@@ -29,7 +29,7 @@ impl<'t, I: Inserter> Patch<'t, I> {
     // The inserter seen through the table. A new one is new through it as well.
     pub fn new(below: I, table: &'t Table) -> Patch<'t, I>
         ensures patched { means I.meaning result ≡ patched table.now.entries (I.meaning below) }
-        ensures new { New I.DELAY (I.meaning below) → New I.DELAY (means I.meaning result) }
+        ensures new { New I.delay (I.meaning below) → New I.delay (means I.meaning result) }
     {
         Patch::over(below, table)
     }
@@ -54,20 +54,22 @@ impl<'t, I: Inserter> Patch<'t, I> {
 }
 
 impl<I: Inserter> Inserter for Patch<'_, I> {
-    ghost DELAY = { I.DELAY };
+    const DELAY: u8 = I::DELAY;
+
+    ghost delay = { I.delay };
 
     ghost meaning = { means I.meaning };
 
-    fn delay() -> u8
-        ensures { result ≡ I.DELAY }
+    fn named_delay() -> u8
+        ensures { result ≡ I.delay }
     {
-        I::delay()
+        I::named_delay()
     }
 
     // One look at the lower one, and the table stays.
     fn look(&mut self, shown: Shown) -> Answer
-        ensures looked { Looked I.DELAY (means I.meaning self.old) shown.lines shown.byte (means I.meaning self.new) result }
-        ensures below { Looked I.DELAY (I.meaning self.old.below) shown.lines (told (entries_of self.old) (sent_as shown)) (I.meaning self.new.below) result }
+        ensures looked { Looked I.delay (means I.meaning self.old) shown.lines shown.byte (means I.meaning self.new) result }
+        ensures below { Looked I.delay (I.meaning self.old.below) shown.lines (told (entries_of self.old) (sent_as shown)) (I.meaning self.new.below) result }
         ensures table { entries_of self.new ≡ entries_of self.old }
     {
         let told = self.told(shown);
@@ -75,8 +77,8 @@ impl<I: Inserter> Inserter for Patch<'_, I> {
     }
 
     fn drop_cable(&mut self) -> PeriphLines
-        ensures dropped { Dropped I.DELAY (means I.meaning self.old) (means I.meaning self.new) result }
-        ensures below { Dropped I.DELAY (I.meaning self.old.below) (I.meaning self.new.below) result }
+        ensures dropped { Dropped I.delay (means I.meaning self.old) (means I.meaning self.new) result }
+        ensures below { Dropped I.delay (I.meaning self.old.below) (I.meaning self.new.below) result }
         ensures table { entries_of self.new ≡ entries_of self.old }
     {
         self.below.drop_cable()
