@@ -6,9 +6,6 @@ use Rattle.patch.specs.declared.table.Table.{Table}
 use Rattle.patch.specs.Tables.{any_high, any_alike, entry_of, place_of, channel_of}
 use Rattle.patch.proofs.Entries.{both_pass, below, own_place, placed}
 
-pub entry_high : (es : List ℕ) (k : ℕ) → 8 ≤ k → entry_of es k ≡ k
-entry_high es k h = grind (arith, nat_tests)
-
 module _ (t : Table) where
   low : any_high t.entries ≡ false
   low = (both_pass t.entries t.allowed).0
@@ -20,26 +17,16 @@ module _ (t : Table) where
   entry_below k l = let b = below t.entries low k (omega (arith, t.eight)) in grind (arith, nat_tests)
 
   pub entry_test : (k : ℕ) → ltb (entry_of t.entries k) 8 ≡ ltb k 8
-  entry_test k = elim (cases_lt k 8) [
-    | inl l ↦ let b = entry_below k l in grind (arith, nat_tests)
-    | inr h ↦ ap (λ c. ltb c 8) (entry_high t.entries k h)
-  ]
+  entry_test k = let b = entry_below k in grind (arith, nat_tests)
 
   pub channel_of_entry : (k : ℕ) → channel_of t.entries (entry_of t.entries k) ≡ k
-  channel_of_entry k = elim (cases_lt k 8) [
-    | inl l ↦
-        let n : k < length t.entries = omega (arith, t.eight) in
-        let b = below t.entries low k n in
-        let p = own_place t.entries apart k n in
-        grind (arith, nat_tests)
-    | inr h ↦ grind (arith, nat_tests)
-  ]
+  channel_of_entry k =
+      let b = below t.entries low k in
+      let p = own_place t.entries apart k in
+      grind (arith, nat_tests, t.eight)
 
   pub entry_of_channel : (c : ℕ) → entry_of t.entries (channel_of t.entries c) ≡ c
-  entry_of_channel c = elim (cases_lt c 8) [
-    | inl l ↦ let p = placed t.entries low apart t.eight c l in grind (arith, nat_tests)
-    | inr h ↦ grind (arith, nat_tests)
-  ]
+  entry_of_channel c = let p = placed t.entries low apart t.eight c in grind (arith, nat_tests)
 
   -- the eight channels stay below 8, and others above
   pub channel_test : (c : ℕ) → ltb (channel_of t.entries c) 8 ≡ ltb c 8

@@ -19,7 +19,7 @@ use Rattle.inserter.specs.Rules.{fits_as, rule_of, carried, shown_cell, takes, a
 use Rattle.patch.specs.declared.table.Table.{Table}
 use Rattle.patch.specs.Tables.{entry_of, channel_of}
 use Rattle.patch.specs.Patched.{told, told_by, seen_from, patched}
-use Rattle.patch.proofs.Ordering.{entry_high, entry_below, entry_test, channel_of_entry, entry_of_channel, channel_test, channel_above, other_entry}
+use Rattle.patch.proofs.Ordering.{entry_below, entry_test, channel_of_entry, entry_of_channel, channel_test, channel_above, other_entry}
 
 -- what a cell says below
 kind_below : List ℕ → Kind → Kind
@@ -30,14 +30,7 @@ kind_below es (Address k) = Address (entry_of es k)
 kind_told_at : (es : List ℕ) (t : Tag) (b : ℕ) → kind_at t (told_by es b (kind_at t b)) ≡ kind_below es (kind_at t b)
 unfolding kind_below
 kind_told_at es Data b = refl
-kind_told_at es Command b = elim (cases_lt b 128) [
-  | inl l ↦
-      let k : kind_at Command b ≡ Count b = grind (arith, nat_tests) in
-      rw k k
-  | inr h ↦
-      let k : kind_at Command b ≡ Address (b - 128) = grind (arith, nat_tests) in
-      rw k (grind (arith, nat_tests))
-]
+kind_told_at es Command b = grind (arith, nat_tests)
 
 -- a cell of that byte says below what the cell says above, with its address translated
 kind_told : (es : List ℕ) (c : Cell) → kind_of (record { byte = told es c; tag = c.tag }) ≡ kind_below es (kind_of c)

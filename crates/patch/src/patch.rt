@@ -45,6 +45,7 @@ impl<'t, I: Inserter> Patch<'t, I> {
     }
 
     // The lower one's channel. The eight channels are the eight below.
+    #[tactic(auto, using(crate::proofs::Ordering::entry_test))]
     fn lower(&self, channel: u8) -> u8
         ensures entry { result ≡ entry_of (entries_of self.now) channel }
         ensures eight { nat_lt result 8 ≡ nat_lt channel 8 }

@@ -45,6 +45,7 @@ impl Table {
     }
 
     // The byte that is shown below for a cell: an address below 8 is told as its entry, and all else as it is.
+    #[tactic(auto, using(crate::proofs::Ordering::entry_below))]
     pub fn told(&self, cell: Cell) -> u8
         ensures { result ≡ told self.now.entries cell }
     {
