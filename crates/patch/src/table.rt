@@ -1,6 +1,6 @@
 // The patch table.
-ghost use Rattle.std.specs.Prelude.{◌≡◌, false, length, Ok, Err, MatchResult};
-ghost use Rattle.patch.specs.Tables.{any_high, any_alike, table_answer, entry_of, place_of, channel_of};
+ghost use Rattle.std.specs.Prelude.{◌≡◌, ◌≤◌, length, Ok, Err, MatchResult};
+ghost use Rattle.patch.specs.Tables.{table_answer, entry_of, place_of, channel_of};
 ghost use Rattle.patch.specs.Patched.{told};
 
 use super::checks::{any_alike, any_high};
@@ -60,19 +60,20 @@ impl Table {
         ensures { result ≡ channel_of self.now.entries entry }
     {
         if entry < 8 {
-            place_of(&self.entries, entry)
+            place_of(&self.entries, entry) as u8
         } else {
             entry
         }
     }
 }
 
-// The place at which an entry stands first, and 8 where it does not stand.
-fn place_of(entries: &[u8; 8], wanted: u8) -> u8
-    ensures { result ≡ place_of entries.now wanted }
+// The place at which an entry stands first, and behind them all where it does not stand.
+fn place_of(entries: &[u8], wanted: u8) -> usize
+    ensures place { result ≡ place_of entries.now wanted }
+    ensures within { result ≤ length entries.now }
 {
-    match entries.iter().position(|&entry| entry == wanted) {
-        Some(place) => place as u8,
-        None => 8,
-    }
+    entries
+        .iter()
+        .position(|&entry| entry == wanted)
+        .unwrap_or(entries.len())
 }

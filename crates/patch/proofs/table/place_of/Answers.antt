@@ -6,16 +6,8 @@ use Rattle.std.proofs.lemmas.List.Sums.{prefix_len-le-length}
 use Rattle.patch.proofs.Entries.{place_of-position}
 use Rattle.patch.proofs.table.place_of.Goals as goal
 
-pub returns-in-Some : goal.returns-in-Some
-returns-in-Some c =
-    let es = c.args.entries.now in
-    let w = c.args.wanted in
-    let p = position_from_yields_List (λ x. eqb x w) _ _ c.position.result c.position.ensures.ran (YieldsList-from_slice es cc) (λ x b q k. search (rules, tests)) in
-    let q = place_of-position es w in
-    grind (arith, nat_tests)
-
-pub returns-in-None : goal.returns-in-None
-returns-in-None c =
+pub returns-clause-place : goal.returns-clause-place
+returns-clause-place c =
     let es = c.args.entries.now in
     let w = c.args.wanted in
     let p = position_from_yields_List (λ x. eqb x w) _ _ c.position.result c.position.ensures.ran (YieldsList-from_slice es cc) (λ x b q k. search (rules, tests)) in
