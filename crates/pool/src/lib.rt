@@ -19,7 +19,7 @@ use handshake::limits::most_offers;
 use handshake::shaken::Handshake;
 use inserter::interface::Inserter;
 use record::Record;
-use records::{PoolRecords, largest_pool};
+use records::{POOL_LIMIT, PoolRecords};
 use refusal::Refusal;
 
 #[derive(Drop)]
@@ -33,7 +33,7 @@ impl<'a, 'c> Pool<'a, 'c> {
         ensures { result ≡ pool_answer (length records.now) (length offers.now) }
     {
         let places = records.len();
-        if places >= 1 && places <= largest_pool() as usize && offers.len() <= most_offers() {
+        if places >= 1 && places <= POOL_LIMIT && offers.len() <= most_offers() {
             Ok(())
         } else {
             Err(Refusal::Memory)

@@ -7,8 +7,6 @@ returns c =
     let s = a.self.now in
     let ys = c.spread.new.items in
     record {
-      grown = grown s.records.now s.used a.channel a.n a.byte c.requires ys c.next_place-at.result c.in_use-have.result c.record_of.result
-          c.next_place-at.ensures c.in_use-have.ensures c.record_of.ensures c.spread.ensures;
-      memory = memory s.records.now s.used a.channel a.n a.byte c.requires ys c.next_place-at.result c.in_use-have.result c.record_of.result
-          c.next_place-at.ensures c.in_use-have.ensures c.record_of.ensures c.spread.ensures;
+      grown = grown s.records.now s.used a.channel a.n a.byte c.requires ys c.next_place-at.result c.new.result c.next_place-at.ensures c.new.ensures c.spread.ensures;
+      memory = memory s.records.now s.used a.channel a.n a.byte c.requires ys c.next_place-at.result c.new.result c.next_place-at.ensures c.new.ensures c.spread.ensures;
     }
