@@ -28,37 +28,40 @@ module _ (c b : ℕ) where
 pub at_place-slice_get : (xs : List ℕ) (i : ℕ) → slice_get xs i ≡ at_place xs i
 at_place-slice_get xs i = grind (arith, nat_tests, slice_get_past xs i, slice_get-get_or xs i 0)
 
--- n records of channel c and byte b, written from `at` on, where u records were in use
-module _ (xs : List Record) (used c n b : ℕ) (fits : n ≤ left xs used) (ys : List Record) (at : ℕ) (new : Record) (place : at ≡ in_use xs used)
-    (en : new ≡ record_of c b) (e : ys ≡ spread_out xs at n new) where
+-- n records of channel c and byte b, where so many places are left
+module _ (xs : List Record) (used c n b : ℕ) (fits : n ≤ left xs used) where
   inside : in_use xs used + n ≤ length xs
   inside = omega arith
 
-  there : ys ≡ written xs (in_use xs used) n (record_of c b)
-  there = e ∙ ap (λ i. spread_out xs i n new) place ∙ ap (spread_out xs (in_use xs used) n) en
-      ∙ cond-true (leb (in_use xs used + n) (length xs)) _ xs (le-leb (in_use xs used + n) (length xs) inside)
+  -- they are written from `at` on, where `at` records were in use
+  pub appended : (ys : List Record) (at : ℕ) → at ≡ in_use xs used → ys ≡ spread_out xs at n (record_of c b) → stored ys (at + n) ≡ stored_after (stored xs used) (length (pooled xs used c)) c n b
+  appended ys at place e =
+      let there : ys ≡ written xs (in_use xs used) n (record_of c b) = e ∙ ap (λ i. spread_out xs i n (record_of c b)) place
+      ∙ cond-true (leb (in_use xs used + n) (length xs)) _ xs (le-leb (in_use xs used + n) (length xs) inside) in
+      let long : length ys ≡ length xs = ap length there ∙ length_written xs (in_use xs used) n (record_of c b) inside in
+      let more : in_use ys (at + n) ≡ in_use xs used + n = omega arith in
+      λ j. record { records = there j; used = more j }
 
-  same_length : length ys ≡ length xs
-  same_length = ap length there ∙ length_written xs (in_use xs used) n (record_of c b) inside
+  -- what that adds to the channels
+  module _ (ys : List Record) (used' : ℕ) (kept : stored ys used' ≡ stored_after (stored xs used) (length (pooled xs used c)) c n b) where
+    there : ys ≡ written xs (in_use xs used) n (record_of c b)
+    there = ap (λ m. m.records) kept
 
-  more_in_use : in_use ys (at + n) ≡ in_use xs used + n
-  more_in_use = let l = same_length in omega arith
+    more_in_use : in_use ys used' ≡ in_use xs used + n
+    more_in_use = ap (λ m. m.used) kept
 
-  behind : take (in_use ys (at + n)) ys ≡ take (in_use xs used) xs ++ replicate n (record_of c b)
-  behind = ap (λ i. take i ys) more_in_use ∙ ap (take (in_use xs used + n)) there ∙ joined xs (in_use xs used) n (record_of c b) inside 0 (in_use xs used) (omega arith)
+    behind : take (in_use ys used') ys ≡ take (in_use xs used) xs ++ replicate n (record_of c b)
+    behind = ap (λ i. take i ys) more_in_use ∙ ap (take (in_use xs used + n)) there ∙ joined xs (in_use xs used) n (record_of c b) inside 0 (in_use xs used) (omega arith)
 
-  on_channel : (k : ℕ) → pooled ys (at + n) k ≡ pooled xs used k ++ bytes_of k (replicate n (record_of c b))
-  on_channel k = ap (bytes_of k) behind ∙ bytes_of_append k (take (in_use xs used) xs) (replicate n (record_of c b))
+    on_channel : (k : ℕ) → pooled ys used' k ≡ pooled xs used k ++ bytes_of k (replicate n (record_of c b))
+    on_channel k = ap (bytes_of k) behind ∙ bytes_of_append k (take (in_use xs used) xs) (replicate n (record_of c b))
 
-  pub grown : Grown c n b (pooled xs used) (λ k. left xs used) (pooled ys (at + n)) (λ k. left ys (at + n))
-  grown =
-      let l = same_length in
-      let m = more_in_use in
-      record {
-        here = on_channel c ∙ ap (λ z. pooled xs used c ++ z) (bytes_here c b n);
-        there = λ k ne. on_channel k ∙ ap (λ z. pooled xs used k ++ z) (bytes_there c b k n ne) ∙ append-nil (pooled xs used k);
-        places = record { here = omega arith; no_rise = λ k ne. omega arith; no_more = λ k ne. omega arith };
-      }
-
-  pub memory : stored ys (at + n) ≡ stored_after (stored xs used) (length (pooled xs used c)) c n b
-  memory = λ j. record { records = there j; used = more_in_use j }
+    pub grown : Grown c n b (pooled xs used) (λ k. left xs used) (pooled ys used') (λ k. left ys used')
+    grown =
+        let l : length ys ≡ length xs = ap length there ∙ length_written xs (in_use xs used) n (record_of c b) inside in
+        let m = more_in_use in
+        record {
+          here = on_channel c ∙ ap (λ z. pooled xs used c ++ z) (bytes_here c b n);
+          there = λ k ne. on_channel k ∙ ap (λ z. pooled xs used k ++ z) (bytes_there c b k n ne) ∙ append-nil (pooled xs used k);
+          places = record { here = omega arith; no_rise = λ k ne. omega arith; no_more = λ k ne. omega arith };
+        }

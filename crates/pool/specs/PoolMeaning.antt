@@ -4,14 +4,15 @@ use Rattle.cell.specs.declared.lines.HostLines.{HostLines}
 use Rattle.inserter.specs.Meaning.{Meaning}
 use Rattle.inserter.specs.Rules.{adds}
 use Rattle.pool.specs.declared.Pool.{Pool}
-use Rattle.pool.specs.Pool.{Stored, pooled, left, stored, stored_after}
+use Rattle.pool.specs.Pool.{Stored, stored_after}
+use Rattle.pool.specs.Kept.{held_by, free_in, lent_to}
 use Rattle.handshake.specs.Seen.{seen, remembered}
 
 abbrev pub means : Pool → Meaning
-means s = seen (λ t. pooled t.records.now t.used) (λ t k. left t.records.now t.used) s.shaken
+means s = seen held_by free_in s.shaken
 
 abbrev pub memory : Pool → Stored
-memory s = stored s.shaken.store.records.now s.shaken.store.used
+memory s = lent_to s.shaken.store
 
 -- the memory after a look: the bytes that it adds stand behind all that were in use, and every other record stays
 abbrev pub memory_after : Stored → Meaning → HostLines → ℕ → Stored

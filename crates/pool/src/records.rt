@@ -1,7 +1,6 @@
 // One pool of records in a lent slice, in the order of arrival, shared by all channels.
-ghost use Rattle.std.specs.Prelude.{◌≡◌, ◌≤◌, length, take};
-ghost use Rattle.handshake.specs.Storage.{Grown};
-ghost use Rattle.pool.specs.Pool.{places, in_use, pooled, left, Stored, stored, stored_after};
+ghost use Rattle.std.specs.Prelude.{◌≤◌, length};
+ghost use Rattle.pool.specs.Pool.{pool_limit};
 
 use super::by_channel::{counted, found};
 use super::record::Record;
@@ -17,56 +16,49 @@ pub struct PoolRecords<'a> {
     pub records: &'a mut [Record],
     // how many of them are in use, from the first on
     pub used: usize,
+    ghost in_range: { (used ≤ length records.now) × (length records.now ≤ pool_limit) },
 }
 
 impl PoolRecords<'_> {
-    // How many records the pool has.
-    fn places(&self) -> usize
-        ensures { result ≡ places self.now.records.now }
-    {
-        self.records.len().min(POOL_LIMIT)
-    }
+    ghost use Rattle.std.specs.Prelude.{◌≡◌, take};
+    ghost use Rattle.pool.specs.Pool.{in_use, left, stored_after};
+    ghost use Rattle.pool.specs.Kept.{held_by, free_in, lent_to};
 
     fn in_use(&self) -> &[Record]
         ensures { result.now ≡ take (in_use self.now.records.now self.now.used) self.now.records.now }
     {
-        &self.records[..self.used.min(self.places())]
-    }
-
-    // The place that comes next.
-    fn next_place(&self) -> usize
-        ensures { result ≡ in_use self.now.records.now self.now.used }
-    {
-        self.in_use().len()
+        &self.records[..self.used]
     }
 
     // How many places are free, which all channels share.
     fn left(&self) -> usize
         ensures { result ≡ left self.now.records.now self.now.used }
     {
-        self.places() - self.next_place()
+        self.records.len() - self.used
     }
 
     // The byte n times more on a channel, where so many places are free.
+    #[tactic(auto, using(crate::proofs::Pooling::appended))]
     fn append(&mut self, channel: u8, n: usize, byte: u8)
-        requires { n ≤ left self.old.records.now self.old.used }
-        ensures grown { Grown channel n byte (pooled self.old.records.now self.old.used) (λ k. left self.old.records.now self.old.used) (pooled self.new.records.now self.new.used) (λ k. left self.new.records.now self.new.used) }
-        ensures memory { stored self.new.records.now self.new.used ≡ stored_after (stored self.old.records.now self.old.used) (length (pooled self.old.records.now self.old.used channel)) channel n byte }
+        requires { n ≤ free_in self.old channel }
+        ensures { lent_to self.new ≡ stored_after (lent_to self.old) (length (held_by self.old channel)) channel n byte }
     {
-        let at = self.next_place();
-        spread(self.records, at, n, Record::new(channel, byte));
-        self.used = at + n;
+        spread(self.records, self.used, n, Record { channel, byte });
+        self.used += n;
     }
 }
 
 impl Storage for PoolRecords<'_> {
-    ghost held = { λ s. pooled s.records.now s.used };
+    ghost use Rattle.pool.specs.Pool.{Stored, stored_after};
+    ghost use Rattle.pool.specs.Kept.{held_by, free_in, lent_to};
 
-    ghost free = { λ s k. left s.records.now s.used };
+    ghost held = { held_by };
+
+    ghost free = { free_in };
 
     ghost Memory = { Stored };
 
-    ghost memory = { λ s. stored s.records.now s.used };
+    ghost memory = { lent_to };
 
     ghost rewritten = { stored_after };
 
