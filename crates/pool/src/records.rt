@@ -8,14 +8,14 @@ use handshake::spread::spread;
 use handshake::storage::Storage;
 
 // The most records that a pool may have.
-pub const POOL_LIMIT: usize = 65_535;
+pub(crate) const POOL_LIMIT: usize = 65_535;
 
 // The memory is lent and fixed, so it is a slice with a count beside it, and no Vec.
 #[derive(Drop)]
 pub struct PoolRecords<'a> {
-    pub records: &'a mut [Record],
+    pub(crate) records: &'a mut [Record],
     // how many of them are in use, from the first on
-    pub used: usize,
+    pub(crate) used: usize,
     ghost in_range: { (used ≤ length records.now) × (length records.now ≤ pool_limit) },
 }
 
@@ -49,8 +49,13 @@ impl PoolRecords<'_> {
 }
 
 impl Storage for PoolRecords<'_> {
+    ghost use Rattle.std.specs.Prelude.{◌≡◌};
     ghost use Rattle.pool.specs.Pool.{Stored, stored_after};
     ghost use Rattle.pool.specs.Kept.{held_by, free_in, lent_to};
+
+    const DELAY: u8 = 2;
+
+    ghost delay = { 2 };
 
     ghost held = { held_by };
 
@@ -61,6 +66,12 @@ impl Storage for PoolRecords<'_> {
     ghost memory = { lent_to };
 
     ghost rewritten = { stored_after };
+
+    fn named_delay() -> u8
+        ensures { result ≡ 2 }
+    {
+        Self::DELAY
+    }
 
     fn length_on(&self, channel: u8) -> u32 {
         counted(self.in_use(), channel) as u32
