@@ -13,14 +13,16 @@ use inserter::front::Rule;
 use inserter::interface::Inserter;
 
 impl<S: Storage> Inserter for Handshake<'_, S> {
+    const DELAY: u8 = S::DELAY;
+
     ghost delay = { S.delay };
 
     ghost meaning = { seen S.held S.free };
 
-    fn delay() -> u8
+    fn named_delay() -> u8
         ensures { result ≡ S.delay }
     {
-        S::delay()
+        S::named_delay()
     }
 
     // The first rule that applies is carried out. Of the memory, the look writes the bytes that it adds, and nothing else.
@@ -44,7 +46,7 @@ impl<S: Storage> Inserter for Handshake<'_, S> {
         ensures memory { S.memory self.new.store ≡ S.memory self.old.store }
     {
         self.cursor = Cursor::start();
-        self.front = at_rest(S::delay());
+        self.front = at_rest(S::named_delay());
         self.lines()
     }
 

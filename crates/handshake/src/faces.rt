@@ -32,7 +32,7 @@ impl<S: Storage> Handshake<'_, S> {
         match rule {
             Rule::TurnForward => Front {
                 patience: front.patience,
-                ..at_rest(S::delay())
+                ..at_rest(S::named_delay())
             },
             Rule::TurnReverse => Front {
                 way: Way::Reverse,
@@ -41,7 +41,7 @@ impl<S: Storage> Handshake<'_, S> {
             },
             Rule::Acknowledge if front.patience == 0 => Front {
                 ack: true,
-                patience: S::delay(),
+                patience: S::named_delay(),
                 ..front
             },
             Rule::Acknowledge => Front {

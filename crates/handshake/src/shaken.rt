@@ -34,7 +34,7 @@ impl<'c, S: Storage> Handshake<'c, S> {
             store,
             offers,
             cursor: Cursor::start(),
-            front: at_rest(S::delay()),
+            front: at_rest(S::named_delay()),
         }
     }
 }
