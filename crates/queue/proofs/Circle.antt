@@ -1,5 +1,5 @@
 -- The slots of a circle that hold its items.
-use Rattle.std.proofs.Common.{◌≡◌, ℕ, ◌+◌, ◌-◌, ◌<◌, ◌≤◌, ◌⊎◌, List, [], ◌∷◌, ◌++◌, length, get_or, take, drop, set, ap, ◌∙◌, inl, inr, arith, length-append, length-drop, length-set, length-take-le, get_or-drop, get_or-take}
+use Rattle.std.proofs.Common.{◌≡◌, ℕ, ◌+◌, ◌-◌, ◌<◌, ◌≤◌, ◌⊎◌, List, [], ◌∷◌, ◌++◌, length, get_or, drop, set, ap, ◌∙◌, inl, inr, arith, length-append, length-drop, length-set, length-take-le, get_or-drop, get_or-take}
 use Rattle.std.proofs.lemmas.List.{same_lists, get_or_append_left, get_or-append_right}
 use Rattle.std.proofs.lemmas.Bool.{cases_lt, lt-ltb, le-ltb}
 use Rattle.std.proofs.lemmas.Grind.{common_steps}
@@ -13,8 +13,8 @@ place_is n k i = elim (cases_lt i (n - k)) [
 ]
 
 module _ {T : Type 0} (N k n : ℕ) (xs : List T) (start : k ≤ N) (fits : n ≤ N) (slots : length xs ≡ N) where
-  pub length-window : length (window k n xs) ≡ n
-  length-window = length-take-le n _ (simp (length-append, length-drop) (omega (arith, length-take-le k xs (omega arith))))
+  pub length_window : length (window k n xs) ≡ n
+  length_window = length-take-le n _ (simp (length-append, length-drop) (omega (arith, length-take-le k xs (omega arith))))
 
   pub get_or-window : (i : ℕ) (d : T) → i < n → get_or (window k n xs) i d ≡ get_or xs (place N k i) d
   get_or-window i d held =
@@ -31,8 +31,8 @@ module _ {T : Type 0} (N k n : ℕ) (xs : List T) (start : k ≤ N) (fits : n �
   window_after_push x room =
       let ys = set xs (place N k n) x in
       let length_ys = length-set xs (place N k n) x ∙ slots in
-      let length_old = length-window N k n xs start fits slots in
-      let length_new = length-window N k (n + 1) ys start (omega arith) length_ys in
+      let length_old = length_window N k n xs start fits slots in
+      let length_new = length_window N k (n + 1) ys start (omega arith) length_ys in
       let written = place_is N k n in
       same_lists _ _ (grind (arith, common_steps)) (λ i d held. grind (
         arith,
@@ -46,8 +46,8 @@ module _ {T : Type 0} (N k n : ℕ) (xs : List T) (start : k ≤ N) (fits : n �
   pub window_after_drop : 0 < n → window (place N k 0 + 1) (n - 1) xs ≡ drop 1 (window k n xs)
   window_after_drop held =
       let within : place N k 0 + 1 ≤ N = grind (arith, place_is N k 0) in
-      let length_old = length-window N k n xs start fits slots in
-      let length_new = length-window N (place N k 0 + 1) (n - 1) xs within (omega arith) slots in
+      let length_old = length_window N k n xs start fits slots in
+      let length_new = length_window N (place N k 0 + 1) (n - 1) xs within (omega arith) slots in
       let old_item = get_or-window N k n xs start fits slots in
       same_lists _ _ (simp length-drop (omega arith)) (λ i d inside. grind (
         arith,

@@ -59,6 +59,7 @@ impl<T: Copy, const N: usize> Ring<T, N> {
     }
 
     // One item more at the end.
+    #[tactic(auto, using(crate::proofs::Circle::length_window, crate::proofs::Circle::window_after_push))]
     pub(crate) fn push(&mut self, item: T)
         requires { length self.old < N }
         ensures { self.new ≡ self.old ++ item ∷ [] }
@@ -80,6 +81,7 @@ impl<T: Copy, const N: usize> Ring<T, N> {
     }
 
     // The first item leaves.
+    #[tactic(auto, using(crate::proofs::Circle::length_window, crate::proofs::Circle::window_after_drop))]
     pub(crate) fn drop_first(&mut self)
         requires { 0 < length self.old }
         ensures { self.new ≡ drop 1 self.old }
