@@ -4,13 +4,14 @@ ghost use Rattle.registers.specs.Values.{bit_of, status, control, extended, conf
 
 use super::config::Fields;
 use cell::lines::PeriphLines;
-use modes::mode::{Direction, Mode};
+use super::written::{ControlBits, ExtendedBits};
+use modes::mode::Mode;
 
 // What a bit of this weight adds to its byte.
 fn bit_of(bit: bool, weight: u8) -> u8
     ensures { result ≡ bit_of bit weight }
 {
-    if bit { weight } else { 0 }
+    u8::from(bit) * weight
 }
 
 // DSR: the far end's lines as they were last answered. PeriphAck reads inverted.
@@ -25,15 +26,13 @@ pub fn status(lines: PeriphLines) -> u8
         + 7
 }
 
-// DCR: `forward` is bit 2, `level` bit 4, the direction bit 5.
-pub fn control(forward: bool, level: bool, direction: Direction) -> u8
-    ensures { result ≡ control forward level direction }
-{
-    let inward = match direction {
-        Direction::Out => false,
-        Direction::In => true,
-    };
-    bit_of(forward, 4) + bit_of(level, 16) + bit_of(inward, 32)
+// DCR.
+impl From<ControlBits> for u8 {
+    ghost from_gives = { λ bits byte. byte ≡ control bits };
+
+    fn from(bits: ControlBits) -> u8 {
+        bit_of(bits.forward, 4) + bit_of(bits.level, 16) + bit_of(bool::from(bits.direction), 32)
+    }
 }
 
 // CnfgA: interrupts are pulsed, a word is one byte, and the byte in the transmitter is not counted in the queue.
@@ -54,23 +53,20 @@ pub fn config_b(raised: bool, fields: Fields) -> u8
 #[derive(Clone, Copy)]
 pub struct Extended {
     pub mode: Mode,
-    // faults raise no interrupt
-    pub mask: bool,
-    pub dma: bool,
-    pub service: bool,
+    pub bits: ExtendedBits,
     pub full: bool,
     pub empty: bool,
 }
 
-impl Extended {
-    pub fn byte(self) -> u8
-        ensures { result ≡ extended self }
-    {
-        self.mode.code() * 32
-            + bit_of(self.mask, 16)
-            + bit_of(self.dma, 8)
-            + bit_of(self.service, 4)
-            + bit_of(self.full, 2)
-            + bit_of(self.empty, 1)
+impl From<Extended> for u8 {
+    ghost from_gives = { λ read byte. byte ≡ extended read };
+
+    fn from(read: Extended) -> u8 {
+        u8::from(read.mode) * 32
+            + bit_of(read.bits.mask, 16)
+            + bit_of(read.bits.dma, 8)
+            + bit_of(read.bits.service, 4)
+            + bit_of(read.full, 2)
+            + bit_of(read.empty, 1)
     }
 }

@@ -35,21 +35,19 @@ fn bit(weight: u8, byte: u8) -> bool
     byte / weight % 2 == 1
 }
 
-impl ControlBits {
-    pub fn of(byte: u8) -> ControlBits
-        ensures { result ≡ control_bits byte }
-    {
+impl From<u8> for ControlBits {
+    ghost from_gives = { λ byte bits. bits ≡ control_bits byte };
+
+    fn from(byte: u8) -> ControlBits {
         ControlBits {
             forward: bit(4, byte),
             level: bit(16, byte),
-            direction: if bit(32, byte) {
-                Direction::In
-            } else {
-                Direction::Out
-            },
+            direction: Direction::from(bit(32, byte)),
         }
     }
+}
 
+impl ControlBits {
     // Whether no other bit is set, so that DCR can keep all of the byte.
     pub fn all_of(byte: u8) -> bool
         ensures { result ≡ plain byte }
@@ -58,10 +56,10 @@ impl ControlBits {
     }
 }
 
-impl ExtendedBits {
-    pub fn of(byte: u8) -> ExtendedBits
-        ensures { result ≡ extended_bits byte }
-    {
+impl From<u8> for ExtendedBits {
+    ghost from_gives = { λ byte bits. bits ≡ extended_bits byte };
+
+    fn from(byte: u8) -> ExtendedBits {
         ExtendedBits {
             mask: bit(16, byte),
             dma: bit(8, byte),
@@ -70,11 +68,11 @@ impl ExtendedBits {
     }
 }
 
-impl Fields {
-    // The fields of a byte that is written to CnfgB.
-    pub fn of(byte: u8) -> Fields
-        ensures { result ≡ fields byte }
-    {
+// The fields of a byte that is written to CnfgB.
+impl From<u8> for Fields {
+    ghost from_gives = { λ byte written. written ≡ fields byte };
+
+    fn from(byte: u8) -> Fields {
         Fields {
             irq: byte / 8 % 8,
             dma: byte % 8,
