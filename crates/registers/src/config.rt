@@ -13,7 +13,7 @@ pub struct Fields {
 
 // What a field reads as, and the interrupt line or the DMA channel that it selects.
 #[derive(Clone, Copy)]
-pub(crate) struct Row {
+struct Row {
     reads: u8,
     selects: u8,
 }
