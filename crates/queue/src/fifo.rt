@@ -1,10 +1,12 @@
 // What the queue is: cells are put in at the end and taken off the front.
-ghost use Rattle.std.specs.Prelude.{◌≡◌, ◌≤◌, [], length};
+ghost use Rattle.std.specs.Prelude.{◌≡◌, ◌≤◌, [], length, Some, codes};
 ghost use Rattle.queue.specs.Depth.{depth};
 ghost use Rattle.queue.specs.Cells.{empty, full, room, room_answer, pushed, first, rest};
 
 use super::ring::Ring;
 use cell::cells::{Cell, Tag};
+use std::error::Error;
+use std::fmt;
 use std::marker::Model;
 
 // How many cells the queue holds at most.
@@ -28,6 +30,16 @@ impl Model for Queue {
 // The queue has no room for what was to be put into it. Nothing was put.
 #[derive(Clone, Copy, PartialEq, Eq, Debug)]
 pub struct NoRoom;
+
+impl fmt::Display for NoRoom {
+    ghost output = { λ _. Some (codes "the queue has no room for that") };
+
+    fn fmt<W: fmt::Write>(&self, f: &mut fmt::Formatter<W>) -> fmt::Result {
+        f.write_str("the queue has no room for that")
+    }
+}
+
+impl Error for NoRoom {}
 
 impl Queue {
     pub fn new() -> Queue
