@@ -1,45 +1,50 @@
 -- A script cut after its first line.
-use Rattle.std.proofs.Common.{◌≡◌, ℕ, ◌+◌, ◌-◌, ◌<◌, ◌≤◌, min, true, false, eqb, List, [], ◌∷◌, ◌++◌, length, get_or, take, drop, sym, ap, ◌∙◌, inl, inr, append_assoc, append-nil, le_refl, le_of_lt, arith, length-drop, drop_of_length-le}
-use Rattle.std.proofs.lemmas.List.{take_more, take_all, drop_more}
-use Rattle.std.proofs.lemmas.Bool.{cases_lt, cond-true, cond-false}
+use Rattle.std.proofs.Common.{◌≡◌, ℕ, suc, ◌+◌, ◌≤◌, Bool, true, false, cond, not, eqb, ltb, List, [], ◌∷◌, length, take, drop, Some, None, position, sym, refl, ap, ◌∙◌, arith, drop_of_length-le}
+use Rattle.std.specs.List.{position_or_len}
+use Rattle.std.proofs.lemmas.List.{take_all}
+use Rattle.std.proofs.lemmas.Bool.{ltb-false}
 use Rattle.script.specs.Lines.{first_line, later_lines}
 
--- the first i bytes have no line end
-pub record Passed (xs : List ℕ) (i : ℕ) : Type 0 where
-  pub first : first_line xs ≡ take i xs ++ first_line (drop i xs)
-  pub later : later_lines xs ≡ later_lines (drop i xs)
+-- the place of the first line end, or the script's length
+abbrev pub end_of : List ℕ → ℕ
+end_of xs = position_or_len (λ byte. eqb byte 10) xs
 
-module _ (xs : List ℕ) (i : ℕ) (p : Passed xs i) where
-  -- all was passed
-  pub no_end : length xs ≤ i → (xs ≡ first_line xs) × (◌≡◌ {A = List ℕ} [] (later_lines xs))
-  no_end h =
-      let e : drop i xs ≡ [] = drop_of_length-le xs h in (
-        sym (p.first ∙ ap (λ z. take i xs ++ first_line z) e ∙ append-nil (take i xs) ∙ take_all i xs h),
-        sym (p.later ∙ ap later_lines e),
-      )
+-- what the first byte adds, where it ends the line and where it does not
+begun : (x : ℕ) (xs line : List ℕ) (n : ℕ) (t : Bool) → take n xs ≡ line → take (cond (not t) (1 + n) 0) (x ∷ xs) ≡ cond t [] (x ∷ line)
+begun x xs line n true e = refl
+begun x xs line n false e = ap (λ k. take k (x ∷ xs)) {x = 1 + n} {y = suc n} (omega arith) ∙ ap (λ z. x ∷ z) e
 
-  module _ (h : i < length xs) where
-    pub here : eqb (get_or xs i 0) 10 ≡ true → (take i xs ≡ first_line xs) × (drop (i + 1) xs ≡ later_lines xs)
-    here t = (
-      sym (p.first ∙ ap (λ z. take i xs ++ first_line z) (drop_more xs i 0 h) ∙ ap (λ z. take i xs ++ z) (cond-true (eqb (get_or xs i 0) 10) _ _ t) ∙ append-nil (take i xs)),
-      sym (p.later ∙ ap later_lines (drop_more xs i 0 h) ∙ cond-true (eqb (get_or xs i 0) 10) _ _ t),
-    )
+left : (x : ℕ) (xs later : List ℕ) (n : ℕ) (t : Bool) → drop (n + 1) xs ≡ later → drop (cond (not t) (1 + n) 0 + 1) (x ∷ xs) ≡ cond t xs later
+left x xs later n true e = refl
+left x xs later n false e = ap (λ k. drop k (x ∷ xs)) {x = 1 + n + 1} {y = suc (n + 1)} (omega arith) ∙ e
 
-    pub on : eqb (get_or xs i 0) 10 ≡ false → Passed xs (i + 1)
-    on t =
-        record {
-          first = p.first ∙ ap (λ z. take i xs ++ first_line z) (drop_more xs i 0 h) ∙ ap (λ z. take i xs ++ z) (cond-false (eqb (get_or xs i 0) 10) _ _ t)
-              ∙ sym (append_assoc (take i xs) (get_or xs i 0 ∷ []) (first_line (drop (i + 1) xs))) ∙ ap (λ z. z ++ first_line (drop (i + 1) xs)) (sym (take_more xs i 0 h));
-          later = p.later ∙ ap later_lines (drop_more xs i 0 h) ∙ cond-false (eqb (get_or xs i 0) 10) _ _ t;
-        }
+first_before : (xs : List ℕ) → take (end_of xs) xs ≡ first_line xs
+first_before [] = refl
+first_before (x ∷ xs) = begun x xs (first_line xs) (end_of xs) (eqb x 10) (first_before xs)
 
--- a part to the end, as the code has it
-pub part : (xs : List ℕ) (i : ℕ) → take (length xs - i) (drop i xs) ≡ drop i xs
-part xs i = take_all (length xs - i) (drop i xs) (simp length-drop (omega arith))
+later_after : (xs : List ℕ) → drop (end_of xs + 1) xs ≡ later_lines xs
+later_after [] = refl
+later_after (x ∷ xs) = left x xs (later_lines xs) (end_of xs) (eqb x 10) (later_after xs)
 
-pub drop_short : (xs : List ℕ) (i : ℕ) → drop (min (length xs) i) xs ≡ drop i xs
-drop_short xs i = elim (cases_lt (length xs) i) [
-  | inl l ↦ let e : min (length xs) i ≡ length xs = omega arith in
-      ap (λ j. drop j xs) e ∙ drop_of_length-le xs (le_refl (length xs)) ∙ sym (drop_of_length-le xs (le_of_lt l))
-  | inr l ↦ let e : min (length xs) i ≡ i = omega arith in ap (λ j. drop j xs) e
-]
+found_at : (t : Bool) (i n : ℕ) → Some i ≡ cond t (Some n) None → i ≡ n
+found_at true i n e = cc
+found_at false i n e = absurd cc
+
+none_only_false : (t : Bool) (n : ℕ) → None ≡ cond t (Some n) None → t ≡ false
+none_only_false true n e = absurd cc
+none_only_false false n e = refl
+
+not_found : (m n : ℕ) → None ≡ cond (ltb m n) (Some m) None → n ≤ m
+not_found m n e = ltb-false m n (none_only_false (ltb m n) m e)
+
+-- a script with a line end at i
+pub cut_at : (xs : List ℕ) (i : ℕ) → Some i ≡ position (λ byte. eqb byte 10) xs → (take i xs ≡ first_line xs) × (drop (i + 1) xs ≡ later_lines xs)
+cut_at xs i e =
+    let at = found_at _ i (end_of xs) e in
+    (ap (λ n. take n xs) at ∙ first_before xs, ap (λ n. drop (n + 1) xs) at ∙ later_after xs)
+
+-- a script of one line
+pub uncut : (xs : List ℕ) → None ≡ position (λ byte. eqb byte 10) xs → (xs ≡ first_line xs) × (◌≡◌ {A = List ℕ} [] (later_lines xs))
+uncut xs e =
+    let past = not_found (end_of xs) (length xs) e in
+    (sym (take_all (end_of xs) xs past) ∙ first_before xs, sym (drop_of_length-le xs (omega (arith, past))) ∙ later_after xs)

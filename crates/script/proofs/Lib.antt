@@ -1,4 +1,5 @@
 pub mod Spelling
 mod Running
 mod Cutting
+mod Captions
 mod Digiting

@@ -25,7 +25,7 @@ fn address_cell(channel: Channel) -> Cell
     ensures { result ≡ address_cell channel.number }
 {
     Cell {
-        byte: 0x80 + channel.number(),
+        byte: 0x80 + u8::from(channel),
         tag: Tag::Command,
     }
 }

@@ -1,27 +1,17 @@
-use Rattle.std.proofs.Common.{◌+◌, ◌-◌, length, take, sym, ap, ◌∙◌, le_refl, arith, length-drop, drop_of_length-le, length-take}
-use Rattle.script.proofs.Cutting.{no_end, here, on, part}
+use Rattle.std.proofs.Common.{◌∙◌}
+use Rattle.std.proofs.lemmas.List.{take_rest}
+use Rattle.script.proofs.Cutting.{cut_at, uncut}
 use Rattle.script.proofs.lines.cut_line.Goals as goal
 
-pub loop-i-preserved : goal.loop-i-preserved
-loop-i-preserved c = on c.args.script.now c.loop-i.i c.loop-i.invariant c.loop-i-test.true (sym c.if-ends_line.ensures)
+pub returns-in-Some-clause-first : goal.returns-in-Some-clause-first
+returns-in-Some-clause-first c = (cut_at c.args.script.now c.in-Some.end c.in-Some.ensures).0
 
-pub returns-then-ends_line : goal.returns-then-ends_line
-returns-then-ends_line c =
-    let xs = c.args.script.now in
-    let i = c.loop-i.i in
-    let h = here xs i c.loop-i.invariant c.loop-i-test.true (sym c.if-ends_line.ensures) in
-    record {
-      first = ap (λ j. take j xs) {x = i - 0} {y = i} (omega arith) ∙ h.0;
-      later = part xs (i + 1) ∙ h.1;
-      shorter = λ _. simp (length-take, length-drop) (omega (arith, c.loop-i-test.true));
-    }
+pub returns-in-Some-clause-later : goal.returns-in-Some-clause-later
+returns-in-Some-clause-later c =
+    take_rest c.args.script.now _ ∙ (cut_at c.args.script.now c.in-Some.end c.in-Some.ensures).1
 
-pub returns : goal.returns
-returns c =
-    let xs = c.args.script.now in
-    let h = no_end xs c.loop-i.i c.loop-i.invariant c.loop-i-test.false in
-    record {
-      first = h.0;
-      later = part xs (length xs) ∙ drop_of_length-le xs (le_refl (length xs)) ∙ h.1;
-      shorter = λ l. simp (length-take, length-drop) (omega (arith, l));
-    }
+pub returns-in-None-clause-first : goal.returns-in-None-clause-first
+returns-in-None-clause-first c = (uncut c.args.script.now c.in-None.ensures).0
+
+pub returns-in-None-clause-later : goal.returns-in-None-clause-later
+returns-in-None-clause-later c = (uncut c.args.script.now c.in-None.ensures).1
