@@ -7,7 +7,7 @@ use Rattle.cell.specs.declared.cells.Tag.{Tag}
 use Rattle.cell.specs.declared.cells.Tag.TheVariants.{Data, Command}
 use Rattle.cell.specs.declared.cells.Kind.TheVariants.{Count, Address}
 use Rattle.cell.specs.declared.cursor.Cursor.{Cursor}
-use Rattle.cell.specs.declared.lines.HostLines.{HostLines}
+use Rattle.cell.specs.declared.lines.Shown.{Shown}
 use Rattle.cell.specs.declared.lines.Answer.{Answer}
 use Rattle.cell.specs.Cells.{level_of, tag_at}
 use Rattle.cell.proofs.Laws.{tag_level}
@@ -18,7 +18,7 @@ use Rattle.inserter.specs.declared.front.Rule.TheVariants.{Acknowledge, Take, Re
 use Rattle.inserter.specs.Meaning.{Meaning, resting}
 use Rattle.inserter.specs.Rules.{fits_as, rule_of, acknowledging, refaced, carried, shown_cell, takes, Places, Looked}
 use Rattle.inserter.proofs.Quiet.{quiet}
-use Rattle.host.specs.Playing.{lines, ready, Asked, kept_of, Took, Gave, Given}
+use Rattle.host.specs.Playing.{lines, shown_as, ready, Asked, kept_of, Took, Gave, Given}
 
 -- forward, with PeriphAck low and patience p
 abbrev waiting : ℕ → Front
@@ -31,9 +31,9 @@ with m f = refaced m.free m f
 with_own : (m : Meaning) (f : Front) → m.front ≡ f → m ≡ with m f
 with_own m f e = ap (with m) e
 
--- a look as the code has it, at a meaning and lines that are known
-pub known : {d : ℕ} {h : HostLines} {b : ℕ} {m m₁ m' : Meaning} {r : Answer} (clk : Bool) (t : Tag) → m₁ ≡ m → h ≡ lines clk t → Looked d m₁ h b m' r → Looked d m (lines clk t) b m' r
-known {d} {h} {b} {m} {m₁} {m'} {r} clk t e f look = subst (λ x. Looked d m x b m' r) f (subst (λ x. Looked d x h b m' r) e look)
+-- a look as the code has it, at a meaning and a cell that are known
+pub known : {d : ℕ} {s : Shown} {m m₁ m' : Meaning} {r : Answer} (clk : Bool) (c : Cell) → m₁ ≡ m → s ≡ shown_as clk c → Looked d m₁ s.lines s.byte m' r → Looked d m (lines clk c.tag) c.byte m' r
+known {d} {s} {m} {m₁} {m'} {r} clk c e f look = subst (λ x. Looked d m x.lines x.byte m' r) f (subst (λ x. Looked d x s.lines s.byte m' r) e look)
 
 -- how a cell fits does not hang on the front
 fits_with : (t : Tag) (m : Meaning) (f : Front) → fits_as t (with m f) ≡ fits_as t m

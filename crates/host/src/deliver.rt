@@ -1,12 +1,14 @@
 // A caption, whole or not at all.
 ghost use Rattle.std.specs.Prelude.{◌≡◌, length, nat_le};
 ghost use Rattle.host.specs.Delivering.{Delivers};
+ghost use Rattle.host.specs.declared.deliver.Undelivered.TheVariants.{NoMemory};
 
 use super::play::{Played, play};
 use cell::channel::Channel;
 use inserter::interface::Inserter;
 use script::encode::encode;
-use std::alloc::Global;
+use std::alloc::{AllocError, Global};
+use std::error::Error;
 use std::fmt;
 
 // Why a caption was not sent. The inserter is then as it was.
@@ -27,11 +29,21 @@ impl fmt::Display for Undelivered {
     }
 }
 
+impl Error for Undelivered {}
+
+impl From<AllocError> for Undelivered {
+    ghost from_gives = { λ error why. why ≡ NoMemory };
+
+    fn from(_error: AllocError) -> Undelivered {
+        Self::NoMemory
+    }
+}
+
 // Whether a channel has a place for each byte of a text.
 fn has_room<I: Inserter>(inserter: &I, channel: Channel, text: &[u8]) -> bool
     ensures { result ≡ nat_le (length text.now) ((I.meaning inserter.now).free channel.number) }
 {
-    text.len() <= inserter.free(channel.number()) as usize
+    text.len() <= inserter.free(u8::from(channel)) as usize
 }
 
 // Gives a caption to an inserter of any make: where its channel has room, all of it arrives there and nothing anywhere else.
@@ -46,8 +58,6 @@ pub fn deliver<I: Inserter>(
     if !has_room(inserter, channel, text) {
         return Err(Undelivered::NoRoom);
     }
-    let Ok(cells) = encode(heap, channel, text) else {
-        return Err(Undelivered::NoMemory);
-    };
+    let cells = encode(heap, channel, text)?;
     Ok(play(inserter, &cells))
 }

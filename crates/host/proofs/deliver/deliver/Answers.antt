@@ -13,4 +13,4 @@ returns g c =
     let p = c.play.result in
     arrives d channel.number c.args.text.now channel.kept m (means c.play.new.inserter) p
     (leb-true (length c.args.text.now) (m.free channel.number) (sym c.if-not-has_room.ensures))
-    (subst (λ cs. Plays d m cs (means c.play.new.inserter) p.taken p.looks) (c.deref.ensures.value ∙ c.in-Ok.ensures.cells) c.play.ensures)
+    (subst (λ cs. Plays d m cs (means c.play.new.inserter) p.taken p.looks) (c.deref.ensures.value ∙ c.in_ok-cells.ensures.cells) c.play.ensures)
