@@ -10,17 +10,22 @@ pub trait Inserter {
     // The make's fixed delay: how many looks it lets pass before it acknowledges a cell.
     const DELAY: u8;
 
-    ghost DELAY: { ℕ };
+    ghost delay: { ℕ };
 
     ghost meaning: { Self → Meaning };
 
+    // The delay again, for code that is generic in the make. No ghost member can stand for the constant itself: an impl for a
+    // type with a lifetime, as every make is one, cannot give both.
+    fn named_delay() -> u8
+        ensures { result ≡ delay };
+
     // Shows the inserter what the host has on the cable; it does what the first rule that applies says, and answers.
     fn look(&mut self, shown: Shown) -> Answer
-        ensures { Looked DELAY (meaning self.old) shown.lines shown.byte (meaning self.new) result };
+        ensures { Looked delay (meaning self.old) shown.lines shown.byte (meaning self.new) result };
 
     // The cable is dropped: lines, way and patience of a new inserter, and a mark in the reading.
     fn drop_cable(&mut self) -> PeriphLines
-        ensures { Dropped DELAY (meaning self.old) (meaning self.new) result };
+        ensures { Dropped delay (meaning self.old) (meaning self.new) result };
 
     // How many bytes a channel holds.
     fn length(&self, channel: u8) -> u32
@@ -37,7 +42,7 @@ pub trait Inserter {
 
 // Looks twice at any inserter, as a host does that waits for an answer to settle.
 pub fn look_twice<I: Inserter>(inserter: &mut I, shown: Shown) -> (Answer, Answer)
-    ensures { LookedTwice I.DELAY (I.meaning inserter.old) shown.lines shown.byte (I.meaning inserter.new) result.0 result.1 }
+    ensures { LookedTwice I.delay (I.meaning inserter.old) shown.lines shown.byte (I.meaning inserter.new) result.0 result.1 }
 {
     let first = inserter.look(shown);
     let second = inserter.look(shown);
