@@ -36,7 +36,7 @@ fn cost<I: Inserter>() -> u128
     ensures cost { result ≡ I.delay + 2 }
     ensures small { result < 258 }
 {
-    u128::from(I::delay()) + 2
+    u128::from(I::named_delay()) + 2
 }
 
 // Shows a cell with HostClk low for as many looks as the make's delay asks for, and says whether it was acknowledged.
@@ -45,7 +45,7 @@ fn acknowledged<I: Inserter>(inserter: &mut I, cell: Cell) -> bool
     ensures { Asked I.delay cell (I.meaning inserter.old) result (I.meaning inserter.new) }
 {
     let shown = shown_as(cell, false);
-    for _past in 0..I::delay() {
+    for _past in 0..I::named_delay() {
         let _ = inserter.look(shown);
     }
     inserter.look(shown).lines.ack
