@@ -1,6 +1,7 @@
 -- Looks at an inserter at rest, one after the other.
 use Rattle.std.proofs.Common.{◌≡◌, ℕ, ◌+◌, ◌-◌, ◌<◌, ◌≤◌, Bool, true, false, cond, ◌&&◌, eqb, ltb, [], length, replicate, None, sym, refl, ap, ◌∙◌, subst, inl, inr, arith}
 use lib.ListN.{length-replicate}
+use Rattle.std.proofs.lemmas.Bool.Decides.{nat_tests}
 use Rattle.std.proofs.lemmas.Bool.{false≢true, cases_eq, eq-eqb, ne_eqb, cond-true, cond-false}
 use Rattle.cell.specs.declared.cells.Cell.{Cell}
 use Rattle.cell.specs.declared.cells.Tag.{Tag}
@@ -79,7 +80,7 @@ module _ (d : ℕ) (c : Cell) (m : Meaning) where
       low_look d (cond (fits_as c.tag m) (d - i) d) c.tag m c.byte m' r l ∙ ap (with m) (go (fits_as c.tag m))
     where
       go : (g : Bool) → cond g (acknowledging d (waiting (cond g (d - i) d))) (waiting (cond g (d - i) d)) ≡ waiting (cond g (d - (i + 1)) d)
-      go true = cond-false (eqb (d - i) 0) _ _ (ne_eqb (d - i) 0 (λ e. omega arith)) ∙ ap waiting {x = d - i - 1} {y = d - (i + 1)} (omega arith)
+      go true = grind (arith, nat_tests)
       go false = refl
 
   -- the look that decides
@@ -89,7 +90,7 @@ module _ (d : ℕ) (c : Cell) (m : Meaning) where
       record { answer = ap (λ x. x.lines.ack) l.answer ∙ ap (λ x. x.front.ack) s ∙ acks (fits_as c.tag m); state = s }
     where
       go : (g : Bool) → cond g (acknowledging d (waiting (cond g (d - i) d))) (waiting (cond g (d - i) d)) ≡ cond g (ready d) (resting d)
-      go true = cond-true (eqb (d - i) 0) _ _ (eq-eqb (d - i) 0 (omega arith))
+      go true = grind (arith, nat_tests)
       go false = refl
 
       acks : (g : Bool) → (cond g (ready d) (resting d)).ack ≡ g
