@@ -1,8 +1,7 @@
 -- Looks at an inserter at rest, one after the other.
-use Rattle.std.proofs.Common.{◌≡◌, ℕ, ◌+◌, ◌-◌, ◌<◌, ◌≤◌, Bool, true, false, cond, ◌&&◌, eqb, ltb, [], length, replicate, None, sym, refl, ap, ◌∙◌, subst, inl, inr, arith}
+use Rattle.std.proofs.Common.{◌≡◌, ℕ, ◌+◌, ◌-◌, ◌<◌, ◌≤◌, Bool, true, false, cond, ◌&&◌, ltb, length, None, sym, refl, ap, ◌∙◌, subst, arith}
 use lib.ListN.{length-replicate}
 use Rattle.std.proofs.lemmas.Bool.Decides.{nat_tests}
-use Rattle.std.proofs.lemmas.Bool.{false≢true, cases_eq, eq-eqb, ne_eqb, cond-true, cond-false}
 use Rattle.cell.specs.declared.cells.Cell.{Cell}
 use Rattle.cell.specs.declared.cells.Tag.{Tag}
 use Rattle.cell.specs.declared.cells.Tag.TheVariants.{Data, Command}
@@ -101,24 +100,16 @@ module _ (d : ℕ) (c : Cell) (m : Meaning) where
 pub adds_kept : (r : Cursor) (c : Cell) → cond (level_of c.tag && ltb r.channel 8) (repeats r.count) 0 ≡ kept_of r c
 adds_kept r c = by_tag c.tag
   where
-    by_test : (e t : Bool) → e ≡ true → cond t (repeats r.count) 0 ≡ length (cond (e && t) (replicate (repeats r.count) c.byte) [])
-    by_test true true h = sym (length-replicate (repeats r.count) c.byte)
-    by_test true false h = refl
-    by_test false t h = absurd (false≢true h)
-
     by_kind : (t : Bool) → 0 ≡ length (gained_by r (cond t (Count c.byte) (Address (c.byte - 128))) r.channel)
     by_kind true = refl
     by_kind false = refl
 
     by_tag : (t : Tag) → cond (level_of t && ltb r.channel 8) (repeats r.count) 0 ≡ kept_of r (record { byte = c.byte; tag = t })
-    by_tag Data = by_test (eqb r.channel r.channel) (ltb r.channel 8) (eq-eqb r.channel r.channel refl)
+    by_tag Data = grind (arith, nat_tests, length-replicate {A = ℕ})
     by_tag Command = by_kind (ltb c.byte 128)
 
 within : {c n : ℕ} {free free' : ℕ → ℕ} → Places c n free free' → (k : ℕ) → free k ≤ free' k + n
-within {c} {n} {free} {free'} p k = elim (cases_eq k c) [
-  | inl e ↦ subst (λ j. free j ≤ free' j + n) (sym e) (omega (arith, p.here))
-  | inr ne ↦ p.no_more k ne
-]
+within {c} {n} {free} {free'} p k = let here = p.here in let more = p.no_more k in grind arith
 
 module _ (d : ℕ) (c : Cell) (m : Meaning) (fit : fits_as c.tag m ≡ true) where
   -- HostClk high, once the cell is acknowledged: it is taken

@@ -1,6 +1,6 @@
 -- A script, line by line.
-use Rattle.std.proofs.Common.{◌≡◌, ℕ, ◌<◌, eqb, List, [], ◌∷◌, ◌++◌, length, Some, None, Ok, Err, sym, refl, ap, ◌∙◌, subst, inl, inr, append_assoc, append-nil}
-use Rattle.std.proofs.lemmas.Bool.{cases_eq, eq-eqb, ne_eqb, cond-true, cond-false}
+use Rattle.std.proofs.Common.{◌≡◌, ℕ, ◌<◌, List, [], ◌∷◌, ◌++◌, length, Some, None, Ok, Err, sym, refl, ap, ◌∙◌, subst, arith, append_assoc, append-nil}
+use Rattle.std.proofs.lemmas.Bool.Decides.{nat_tests}
 use Rattle.inserter.specs.Meaning.{Meaning}
 use Rattle.script.specs.Lines.{first_line, later_lines}
 use Rattle.host.specs.declared.line.NotSent.TheVariants.{Bad, Undelivered}
@@ -18,10 +18,7 @@ one_held d line m (Err (Bad e)) m' l k = same k l.1
 one_held d line m (Err (Undelivered NoRoom)) m' l k = same k l.3.1
 one_held d line m (Err (Undelivered NoMemory)) m' l k = same k l.3.1
 one_held d line m (Ok (Some p)) m' l k =
-    (elim (cases_eq k l.0) [
-      | inl e ↦ subst (λ j. m'.held j ≡ m.held j ++ l.1) (sym e) l.3.here ∙ ap (λ z. m.held k ++ z) (sym (cond-true (eqb k l.0) l.1 [] (eq-eqb k l.0 e)))
-      | inr ne ↦ l.3.elsewhere k ne ∙ sym (append-nil (m.held k)) ∙ ap (λ z. m.held k ++ z) (sym (cond-false (eqb k l.0) l.1 [] (ne_eqb k l.0 ne)))
-    ])
+    (let here = l.3.here in let elsewhere = l.3.elsewhere k in grind (arith, nat_tests, append-nil {A = ℕ}))
     ∙ ap (λ z. m.held k ++ text_for z k) (sym l.2)
 
 -- so far: whatever is told of the rest completes what was told of the script
