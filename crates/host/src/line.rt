@@ -57,7 +57,6 @@ pub fn play_line<I: Inserter>(heap: Global, inserter: &mut I, line: &[u8]) -> Ou
     if line.is_empty() {
         return Ok(None);
     }
-    let caption = caption_of(line)?;
-    let played = deliver(heap, inserter, caption.channel, caption.text)?;
+    let played = deliver(heap, inserter, caption_of(line)?)?;
     Ok(Some(played))
 }
