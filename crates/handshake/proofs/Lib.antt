@@ -1,4 +1,2 @@
-mod Offers
-mod Looks
 pub mod Spreading
 pub mod Growing
