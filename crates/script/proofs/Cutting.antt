@@ -1,7 +1,7 @@
 -- A script cut after its first line.
-use Rattle.std.proofs.Common.{◌≡◌, ℕ, suc, ◌+◌, ◌≤◌, Bool, true, false, cond, not, eqb, ltb, List, [], ◌∷◌, length, take, drop, Some, None, position, sym, refl, ap, ◌∙◌, arith, drop_of_length-le}
+use Rattle.std.proofs.Common.{◌≡◌, ℕ, suc, ◌+◌, ◌-◌, ◌≤◌, Bool, true, false, cond, not, eqb, ltb, List, [], ◌∷◌, length, take, drop, Some, None, position, sym, refl, ap, ◌∙◌, arith, drop_of_length-le}
 use Rattle.std.specs.List.{position_or_len}
-use Rattle.std.proofs.lemmas.List.{take_all}
+use Rattle.std.proofs.lemmas.List.{take_all, take_rest}
 use Rattle.std.proofs.lemmas.Bool.{ltb-false}
 use Rattle.script.specs.Lines.{first_line, later_lines}
 
@@ -38,13 +38,17 @@ not_found : (m n : ℕ) → None ≡ cond (ltb m n) (Some m) None → n ≤ m
 not_found m n e = ltb-false m n (none_only_false (ltb m n) m e)
 
 -- a script with a line end at i
-pub cut_at : (xs : List ℕ) (i : ℕ) → Some i ≡ position (λ byte. eqb byte 10) xs → (take i xs ≡ first_line xs) × (drop (i + 1) xs ≡ later_lines xs)
-cut_at xs i e =
-    let at = found_at _ i (end_of xs) e in
-    (ap (λ n. take n xs) at ∙ first_before xs, ap (λ n. drop (n + 1) xs) at ∙ later_after xs)
+pub first_cut : (xs : List ℕ) (i : ℕ) → Some i ≡ position (λ byte. eqb byte 10) xs → take i xs ≡ first_line xs
+first_cut xs i e = ap (λ n. take n xs) (found_at _ i (end_of xs) e) ∙ first_before xs
+
+pub later_cut : (xs : List ℕ) (i : ℕ) → Some i ≡ position (λ byte. eqb byte 10) xs → take (length xs - (i + 1)) (drop (i + 1) xs) ≡ later_lines xs
+later_cut xs i e = take_rest xs (i + 1) ∙ ap (λ n. drop (n + 1) xs) (found_at _ i (end_of xs) e) ∙ later_after xs
 
 -- a script of one line
-pub uncut : (xs : List ℕ) → None ≡ position (λ byte. eqb byte 10) xs → (xs ≡ first_line xs) × (◌≡◌ {A = List ℕ} [] (later_lines xs))
-uncut xs e =
-    let past = not_found (end_of xs) (length xs) e in
-    (sym (take_all (end_of xs) xs past) ∙ first_before xs, sym (drop_of_length-le xs (omega (arith, past))) ∙ later_after xs)
+pub first_whole : (xs : List ℕ) → None ≡ position (λ byte. eqb byte 10) xs → xs ≡ first_line xs
+first_whole xs e = sym (take_all (end_of xs) xs (not_found (end_of xs) (length xs) e)) ∙ first_before xs
+
+pub later_none : (xs : List ℕ) → None ≡ position (λ byte. eqb byte 10) xs → ◌≡◌ {A = List ℕ} [] (later_lines xs)
+later_none xs e = sym (drop_of_length-le xs (omega (arith, not_found (end_of xs) (length xs) e))) ∙ later_after xs
+
+pub ruleset cuts = (first_cut, later_cut, first_whole, later_none)

@@ -1,5 +1,4 @@
 pub mod Spelling
-mod Running
 mod Cutting
 mod Captions
 mod Digiting

@@ -35,6 +35,7 @@ fn line_end(script: &[u8]) -> Option<usize>
 }
 
 // The first line of a script without its line end, and the lines after it.
+#[tactic(auto, using(crate::proofs::Cutting::cuts))]
 pub fn cut_line(script: &[u8]) -> (&[u8], &[u8])
     ensures first { result.0.now ≡ first_line script.now }
     ensures later { result.1.now ≡ later_lines script.now }
