@@ -55,6 +55,7 @@ impl LaneBytes<'_> {
     }
 
     // The byte n times more on a lane that has the places.
+    #[tactic(auto, using(crate::proofs::Laning::memory))]
     fn append(&mut self, channel: u8, n: u32, byte: u8)
         requires { (channel < 8) × (n ≤ room self.old.bytes.now self.old.lens channel) }
         ensures grown { Grown channel n byte (lane self.old.bytes.now self.old.lens) (room self.old.bytes.now self.old.lens) (lane self.new.bytes.now self.new.lens) (room self.new.bytes.now self.new.lens) }
