@@ -6,12 +6,10 @@ mod report;
 use anyhow::anyhow;
 use host::evening::play_script;
 use inserter::interface::Inserter;
-use lanes::Lanes;
 use options::said::Said;
 use options::{Make, Options, Setup, USAGE, Wrong};
 use patch::patch::Patch;
 use patch::table::Table;
-use pool::Pool;
 use pool::record::Record;
 use refusal::Refusal;
 use report::{print_channels, print_lines, print_setup};
@@ -23,14 +21,11 @@ fn main(rt: HostRuntime) -> anyhow::Result<()> {
 }
 
 fn run(rt: &HostRuntime) -> anyhow::Result<()> {
-    let mut said = Said::nothing();
-    for word in env::args(rt)?.skip(1) {
-        match said.heard(word.as_str()) {
-            Ok(more) => said = more,
-            Err(wrong) => return not_understood(rt, wrong),
-        }
-    }
-    match said.options() {
+    let asked = env::args(rt)?
+        .skip(1)
+        .try_fold(Said::nothing(), |said, word| said.heard(word.as_str()))
+        .and_then(|said| said.options());
+    match asked {
         Ok(Options::Help) => {
             print!(rt; "{USAGE}")?;
             Ok(())
@@ -47,12 +42,10 @@ fn not_understood(rt: &HostRuntime, wrong: Wrong) -> anyhow::Result<()> {
 
 // The table is asked for before anything is read or made: one that is refused carries no byte.
 fn play(rt: &HostRuntime, setup: Setup) -> anyhow::Result<()> {
-    match setup.patch {
-        None => play_through(rt, setup, None),
-        Some(entries) => match Table::new(entries) {
-            Ok(table) => play_through(rt, setup, Some(table)),
-            Err(refusal) => refused(rt, refusal),
-        },
+    let table = setup.patch.map(|entries| Table::try_from(entries));
+    match table.transpose() {
+        Ok(table) => play_through(rt, setup, table),
+        Err(refusal) => refused(rt, refusal),
     }
 }
 
@@ -69,22 +62,22 @@ fn play_through(rt: &HostRuntime, setup: Setup, table: Option<Table>) -> anyhow:
     match setup.make {
         Make::Lanes => {
             let mut memory = vec![in heap; 0u8; 8 * setup.places as usize]?;
-            if let Err(refusal) = Lanes::may_use(&memory, &[]) {
+            if let Err(refusal) = lanes::may_use(&memory, &[]) {
                 return refused(rt, refusal);
             }
             print_setup(rt, setup)?;
-            patched(rt, Lanes::new(&mut memory, &[]), table, &script)
+            patched(rt, lanes::over(&mut memory, &[]), table, &script)
         }
         Make::Pool => {
             let mut memory = vec![in heap; Record {
                 channel: 0,
                 byte: 0
             }; setup.places as usize]?;
-            if let Err(refusal) = Pool::may_use(&memory, &[]) {
+            if let Err(refusal) = pool::may_use(&memory, &[]) {
                 return refused(rt, refusal);
             }
             print_setup(rt, setup)?;
-            patched(rt, Pool::new(&mut memory, &[]), table, &script)
+            patched(rt, pool::over(&mut memory, &[]), table, &script)
         }
     }
 }

@@ -1,11 +1,11 @@
 // What was done, in print.
-use host::line::Line;
+use host::line::{NotSent, Outcome};
 use inserter::interface::Inserter;
 use listing::{held, hex, text};
 use options::{Make, Setup};
 use std::io;
 
-// What is played to.
+// What is played to. An impl of Display would have the same two arms, and the patch on a line of its own.
 pub(crate) fn print_setup(rt: &HostRuntime, setup: Setup) -> io::Result<()> {
     let places = setup.places;
     match setup.make {
@@ -19,34 +19,40 @@ pub(crate) fn print_setup(rt: &HostRuntime, setup: Setup) -> io::Result<()> {
 }
 
 // Each line that was not sent, with its number and why, and then how many there were of each kind.
-pub(crate) fn print_lines(rt: &HostRuntime, told: &[Line]) -> io::Result<()> {
-    let mut sent = 0usize;
-    let mut unsent = 0usize;
-    let mut bad = 0usize;
-    let mut cells = 0usize;
-    let mut looks = 0u128;
-    let mut number = 0usize;
-    for line in told {
-        number = number.saturating_add(1);
-        match line {
-            Line::Empty => {}
-            Line::Bad(why) => {
-                bad = bad.saturating_add(1);
-                println!(rt; "line {number}: {why}")?;
-            }
-            Line::Unsent(why) => {
-                unsent = unsent.saturating_add(1);
-                println!(rt; "line {number}: {why}")?;
-            }
-            Line::Sent(played) => {
-                sent = sent.saturating_add(1);
-                cells = cells.saturating_add(played.taken);
-                looks = looks.saturating_add(played.looks);
-            }
+pub(crate) fn print_lines(rt: &HostRuntime, told: &[Outcome]) -> io::Result<()> {
+    for (before, outcome) in told.iter().enumerate() {
+        if let Err(why) = outcome {
+            println!(rt; "line {}: {why}", before + 1)?;
         }
     }
-    println!(rt; "{number} lines: {sent} captions sent, {unsent} not sent, {bad} bad")?;
+    let lines = told.len();
+    let sent = told
+        .iter()
+        .filter(|outcome| matches!(outcome, Ok(Some(_))))
+        .count();
+    let unsent = told
+        .iter()
+        .filter(|outcome| matches!(outcome, Err(NotSent::Undelivered(_))))
+        .count();
+    let bad = told
+        .iter()
+        .filter(|outcome| matches!(outcome, Err(NotSent::Bad(_))))
+        .count();
+    println!(rt; "{lines} lines: {sent} captions sent, {unsent} not sent, {bad} bad")?;
+    let (cells, looks) = taken_in(told);
     println!(rt; "{cells} cells taken in {looks} looks")
+}
+
+// How many cells were taken, and in how many looks.
+fn taken_in(told: &[Outcome]) -> (usize, u128) {
+    told.iter()
+        .filter_map(|outcome| outcome.ok().flatten())
+        .fold((0usize, 0u128), |(cells, looks), played| {
+            (
+                cells.saturating_add(played.taken),
+                looks.saturating_add(played.looks),
+            )
+        })
 }
 
 // Each channel: how many bytes it holds and has room for, the bytes in hex, and as text.

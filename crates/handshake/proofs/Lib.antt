@@ -1,4 +1,1 @@
-mod Offers
-mod Looks
 pub mod Spreading
-pub mod Growing

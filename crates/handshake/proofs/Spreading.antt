@@ -1,20 +1,29 @@
 -- Writing one item over and over.
-use Rattle.std.proofs.Common.{◌≡◌, ℕ, ◌+◌, ◌-◌, ◌<◌, ◌≤◌, List, ◌++◌, length, take, drop, set, replicate, sym, ap, ◌∙◌, append_assoc, add-zero, arith, length-append, length-drop, take-append-drop, length-take}
+use Rattle.std.proofs.Common.{◌≡◌, ℕ, ◌+◌, ◌-◌, ◌≤◌, List, [], ◌∷◌, ◌++◌, length, refl, take, drop, replicate, leb, sym, subst, ap, ◌∙◌, append_assoc, arith, length-append, length-drop, length-take}
 use lib.ListN.{length-replicate}
-use lib.Seq.{paste}
-use Rattle.std.proofs.lemmas.List.Edits.{fill_from_more, paste_all}
+use Rattle.std.proofs.lemmas.Bool.{cond-true, le-leb}
 use Rattle.std.proofs.lemmas.List.{drop-drop, take_at, drop_at, take-append-le, drop-append-le, take-take, drop-take, length-take-le}
-use Rattle.handshake.specs.Spread.{written}
+use borrow.Rule.Slice.PartMut.{put_mid}
+use Rattle.std.proofs.lemmas.Slice.{put_mid-paste}
+use Rattle.std.proofs.lemmas.List.Edits.{paste_all}
+use Rattle.std.specs.List.{FoldsTo}
+use Rattle.handshake.specs.Spread.{written, spread_out}
 
--- as the shelf has it
-pasted : {X : Type 0} (xs : List X) (at n : ℕ) (x : X) → paste xs at (replicate n x) n ≡ written xs at n x
-pasted xs at n x = paste_all xs at (replicate n x) n (sym (length-replicate n x))
+-- calls that each give x, and leave the callee as it was, give nothing else
+pub all_alike : {F X : Type 0} (R : F → X → F → Type 0) (x : X) (f : F) → ((y : X) (q : F) → R f y q → (y ≡ x) × (q ≡ f)) → (ys : List X) (q : F) → FoldsTo R f ys q → ys ≡ replicate (length ys) x
+all_alike R x f alike [] q ran = refl
+all_alike R x f alike (y ∷ ys) q ran =
+    let same = alike y ran.0 ran.1 in
+    ap (λ z. z ∷ ys) same.0 ∙ ap (λ zs. x ∷ zs) (all_alike R x f alike ys q (subst (λ p. FoldsTo R p ys q) same.1 ran.2))
 
-pub written_none : {X : Type 0} (xs : List X) (at : ℕ) (x : X) → xs ≡ written xs at 0 x
-written_none xs at x = sym (simp add-zero (take-append-drop at xs))
-
-pub written_more : {X : Type 0} (xs : List X) (at i : ℕ) (x : X) → at + i < length xs → set (written xs at i x) (at + i) x ≡ written xs at (i + 1) x
-written_more xs at i x h = ap (λ z. set z (at + i) x) (sym (pasted xs at i x)) ∙ fill_from_more xs at i x h ∙ pasted xs at (i + 1) x
+-- the k places from `at` on hold nothing but x
+pub written_over : {X : Type 0} (xs : List X) (at n k : ℕ) (x : X) → at + n ≤ length xs → n ≡ k → (ys : List X) → length ys ≡ length (take k (drop at xs)) → ys ≡ replicate (length ys) x →
+    put_mid at k xs ys ≡ spread_out xs at n x
+written_over xs at n k x fits same ys len alike =
+    let l : length ys ≡ n = simp (length-take, length-drop) at len ∙ omega arith in
+    put_mid-paste at k xs ys (replicate n x) n (alike ∙ ap (λ i. replicate i x) l) same (sym (length-replicate n x))
+    ∙ paste_all xs at (replicate n x) n (sym (length-replicate n x))
+    ∙ sym (cond-true (leb (at + n) (length xs)) _ xs (le-leb (at + n) (length xs) fits))
 
 -- what is left of each part of the memory
 module _ {X : Type 0} (xs : List X) (at n : ℕ) (x : X) (fits : at + n ≤ length xs) where

@@ -1,5 +1,5 @@
 -- What the handshake over a storage means.
-use Rattle.std.specs.Prelude.{◌≡◌, ℕ, Bool, cond, ◌&&◌, List, ◌++◌, length, drop, nat_lt}
+use Rattle.std.specs.Prelude.{◌≡◌, ℕ, Bool, cond, ◌&&◌, List, ◌++◌, length, nat_lt}
 use Rattle.cell.specs.declared.cells.Cell.{Cell}
 use Rattle.cell.specs.declared.cursor.Cursor.{Cursor}
 use Rattle.cell.specs.Cells.{level_of}
@@ -10,7 +10,7 @@ use Rattle.handshake.specs.declared.shaken.Handshake.{Handshake}
 
 abbrev pub seen : {S : Type 0} → (S → ℕ → List ℕ) → (S → ℕ → ℕ) → Handshake S → Meaning
 seen held free s =
-    record { held = held s.store; free = free s.store; cursor = s.cursor; offers = drop s.gone s.cells.now; front = s.front }
+    record { held = held s.store; free = free s.store; cursor = s.cursor; offers = s.offers.now; front = s.front }
 
 -- whether a cell, read here, is stored: data for one of the eight channels
 abbrev pub stores : Cursor → Cell → Bool

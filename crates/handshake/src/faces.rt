@@ -10,7 +10,7 @@ use cell::lines::{Answer, PeriphLines};
 use inserter::front::{Front, Rule, Way};
 
 // The front of a new inserter, and of one whose cable was dropped.
-pub fn at_rest(delay: u8) -> Front
+pub(crate) fn at_rest(delay: u8) -> Front
     ensures { result ≡ resting delay }
 {
     Front {
@@ -25,14 +25,14 @@ pub fn at_rest(delay: u8) -> Front
 
 impl<S: Storage> Handshake<'_, S> {
     // The front after a rule is carried out.
-    pub(crate) fn front_after(&self, rule: Rule, delay: u8) -> Front
-        ensures { result ≡ faced rule delay (seen S.held S.free self.now).offers self.now.front }
+    pub(crate) fn front_after(&self, rule: Rule) -> Front
+        ensures { result ≡ faced rule S.delay self.now.offers.now self.now.front }
     {
         let front = self.front;
         match rule {
             Rule::TurnForward => Front {
                 patience: front.patience,
-                ..at_rest(delay)
+                ..at_rest(S::named_delay())
             },
             Rule::TurnReverse => Front {
                 way: Way::Reverse,
@@ -41,7 +41,7 @@ impl<S: Storage> Handshake<'_, S> {
             },
             Rule::Acknowledge if front.patience == 0 => Front {
                 ack: true,
-                patience: delay,
+                patience: S::named_delay(),
                 ..front
             },
             Rule::Acknowledge => Front {
@@ -65,17 +65,16 @@ impl<S: Storage> Handshake<'_, S> {
 
     // The front with the first cell on offer on show.
     fn showing(&self) -> Front
-        ensures { result ≡ showing (seen S.held S.free self.now).offers self.now.front }
+        ensures { result ≡ showing self.now.offers.now self.now.front }
     {
-        if self.gone >= self.cells.len() {
-            return self.front;
-        }
-        let cell = self.cells[self.gone];
-        Front {
-            shown: Some(cell),
-            clk: false,
-            ack: cell.tag.level(),
-            ..self.front
+        match self.offers {
+            [] => self.front,
+            [cell, ..] => Front {
+                shown: Some(*cell),
+                clk: false,
+                ack: bool::from(cell.tag),
+                ..self.front
+            },
         }
     }
 

@@ -1,9 +1,9 @@
-// The handshake of every make, in code once: a make is a storage under it.
+// The handshake of every make, in code once: a make is a storage under it, and every storage under it is an inserter.
 #![tactic(auto)]
 
-pub mod faces;
+mod as_inserter;
+mod faces;
 pub mod limits;
-mod questions;
 mod rules;
 pub mod shaken;
 pub mod spread;

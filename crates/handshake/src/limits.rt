@@ -1,10 +1,14 @@
 // The limit of what a make may be handed to offer.
-ghost use Rattle.std.specs.Prelude.{◌≡◌};
+ghost use Rattle.std.specs.Prelude.{◌≡◌, length, nat_le};
 ghost use Rattle.handshake.specs.Limits.{offer_limit};
 
-// The most cells that may be on offer.
-pub fn most_offers() -> usize
-    ensures { result ≡ offer_limit }
+use cell::cells::Cell;
+
+const OFFER_LIMIT: usize = 65_535;
+
+// Whether a make may offer so many cells.
+pub fn may_offer(offers: &[Cell]) -> bool
+    ensures { result ≡ nat_le (length offers.now) offer_limit }
 {
-    65_535
+    offers.len() <= OFFER_LIMIT
 }

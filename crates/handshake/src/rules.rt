@@ -14,9 +14,9 @@ use inserter::front::{Rule, Way};
 impl<S: Storage> Handshake<'_, S> {
     // Whether cells are still on offer.
     pub(crate) fn offering(&self) -> bool
-        ensures { result ≡ any (seen S.held S.free self.now).offers }
+        ensures { result ≡ any self.now.offers.now }
     {
-        self.gone < self.cells.len()
+        !self.offers.is_empty()
     }
 
     // Whether a cell with this tag fits as the reading stands.
@@ -47,7 +47,7 @@ impl<S: Storage> Handshake<'_, S> {
         let ack = self.front.ack;
         if !host.nreverse && host.clk && !ack {
             Rule::TurnReverse
-        } else if !self.fitting(Tag::from_level(host.ack)) {
+        } else if !self.fitting(Tag::from(host.ack)) {
             Rule::Rest
         } else if !host.clk && !ack {
             Rule::Acknowledge

@@ -7,8 +7,6 @@ pub fn spread<T: Copy>(items: &mut [T], at: usize, n: usize, item: T)
     ensures { items.new ≡ spread_out items.old at n item }
 {
     if at <= items.len() && n <= items.len() - at {
-        for i in 0..n {
-            items[at + i] = item;
-        }
+        items[at..at + n].fill_with(|| item);
     }
 }

@@ -4,6 +4,11 @@ ghost use Rattle.inserter.specs.Meaning.{at_place};
 ghost use Rattle.handshake.specs.Storage.{Grown};
 
 pub trait Storage {
+    // The fixed delay of the make: how many looks it lets pass before it acknowledges a cell.
+    const DELAY: u8;
+
+    ghost delay: { ℕ };
+
     ghost held: { Self → ℕ → List ℕ };
 
     ghost free: { Self → ℕ → ℕ };
@@ -14,6 +19,10 @@ pub trait Storage {
     ghost memory: { Self → Memory };
 
     ghost rewritten: { Memory → ℕ → ℕ → ℕ → ℕ → Memory };
+
+    // The delay again, as the interface of inserters has it.
+    fn named_delay() -> u8
+        ensures { result ≡ delay };
 
     fn length_on(&self, channel: u8) -> u32
         ensures { result ≡ length (held self.now channel) };

@@ -1,7 +1,9 @@
 -- A caption that has room is taken whole.
-use Rattle.std.proofs.Common.{◌≡◌, ℕ, zero, suc, ◌+◌, ◌*◌, ◌<◌, ◌≤◌, false, ◌&&◌, ltb, leb, List, [], ◌∷◌, ◌++◌, length, get_or, take, drop, sym, refl, ap, ◌∙◌, subst, inl, inr, append-nil, arith}
+use Rattle.std.proofs.Common.{◌≡◌, ℕ, zero, suc, ◌+◌, ◌*◌, ◌<◌, ◌≤◌, false, cond, ◌&&◌, ltb, List, [], ◌∷◌, ◌++◌, length, get_or, take, drop, sym, refl, ap, ◌∙◌, subst, inl, inr, append-nil, arith}
 use Rattle.std.proofs.lemmas.List.{take_more, take-append-drop, take_all}
-use Rattle.std.proofs.lemmas.Bool.{true≢false, cases_lt, lt-ltb, le-ltb, leb-false, or_parts, and_from, cond-true, cond-false}
+use Rattle.std.proofs.lemmas.List.Elements.{All-take}
+use Rattle.std.proofs.lemmas.Bool.Decides.{nat_tests}
+use Rattle.std.proofs.lemmas.Bool.{true≢false, cases_lt, lt-ltb, le-ltb, cond-true, cond-false}
 use Rattle.cell.specs.declared.cells.Tag.{Tag}
 use Rattle.cell.specs.declared.cells.Tag.TheVariants.{Data, Command}
 use Rattle.cell.specs.Cells.{level_of}
@@ -15,20 +17,17 @@ use Rattle.host.specs.Playing.{no_cell, kept_of, kept, Plays}
 use Rattle.host.specs.Delivering.{Arrives}
 use Rattle.host.proofs.Giving.{adds_kept}
 use Rattle.host.proofs.Playing.{kept-++}
-use Rattle.host.proofs.Steady.{steady_take, steady_channel, text_steady, text_kept}
+use Rattle.host.proofs.Steady.{Stays, steady_channel, text_steady, text_kept}
 
 module _ (c : ℕ) (text : List ℕ) (low : c < 8) (m m' : Meaning) (room : length text ≤ m.free c) where
   -- data at a place of the text's cells has room, since the bytes before it left enough
   module _ (i : ℕ) (h : i < length (text_cells text)) (at : m'.cursor ≡ reached (on_channel c) (cells (take i (text_cells text))))
       (places : m.free c ≤ m'.free c + kept (on_channel c) (take i (text_cells text))) where
     here : m'.cursor.channel ≡ c
-    here = ap (λ r. r.channel) at ∙ steady_channel (on_channel c) (take i (text_cells text)) (steady_take i (text_cells text) (text_steady text))
+    here = ap (λ r. r.channel) at ∙ steady_channel (on_channel c) (take i (text_cells text)) (All-take Stays i (text_cells text) (text_steady text))
 
     next_kept : (get_or (text_cells text) i no_cell).tag ≡ Data → kept_of m'.cursor (get_or (text_cells text) i no_cell) ≡ repeats m'.cursor.count
-    next_kept e =
-        sym (adds_kept m'.cursor (get_or (text_cells text) i no_cell))
-        ∙ cond-true (level_of (get_or (text_cells text) i no_cell).tag && ltb m'.cursor.channel 8) (repeats m'.cursor.count) 0
-        (and_from (level_of (get_or (text_cells text) i no_cell).tag) (ltb m'.cursor.channel 8) (ap level_of e) (lt-ltb m'.cursor.channel 8 (omega (arith, here))))
+    next_kept e = sym (adds_kept m'.cursor (get_or (text_cells text) i no_cell)) ∙ ap (λ t. cond (level_of t && ltb m'.cursor.channel 8) (repeats m'.cursor.count) 0) e ∙ cond-true (ltb m'.cursor.channel 8) _ 0 (lt-ltb m'.cursor.channel 8 (omega (arith, here)))
 
     enough : (get_or (text_cells text) i no_cell).tag ≡ Data → repeats m'.cursor.count ≤ m'.free c
     enough e =
@@ -44,11 +43,9 @@ module _ (c : ℕ) (text : List ℕ) (low : c < 8) (m m' : Meaning) (room : leng
     fits_here : (t : Tag) → (get_or (text_cells text) i no_cell).tag ≡ t → fits_as t m' ≡ false → ⊥
     fits_here Command e f = true≢false f
     fits_here Data e f =
-        let p = or_parts (ltb 7 m'.cursor.channel) (leb (repeats m'.cursor.count) (m'.free m'.cursor.channel)) f in
-        let short : m'.free m'.cursor.channel < repeats m'.cursor.count = leb-false (repeats m'.cursor.count) (m'.free m'.cursor.channel) p.1 in
         let k : m'.free m'.cursor.channel ≡ m'.free c = ap m'.free here in
         let n = enough e in
-        omega arith
+        grind (arith, nat_tests)
 
   -- so no cell of the caption is one that does not fit
   not_stopped : (t : ℕ) → t < length (caption_cells c text) → m'.cursor ≡ reached start (cells (take t (caption_cells c text))) →

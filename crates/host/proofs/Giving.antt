@@ -1,13 +1,13 @@
 -- Looks at an inserter at rest, one after the other.
-use Rattle.std.proofs.Common.{◌≡◌, ℕ, ◌+◌, ◌-◌, ◌<◌, ◌≤◌, Bool, true, false, cond, ◌&&◌, eqb, ltb, [], length, replicate, None, sym, refl, ap, ◌∙◌, subst, inl, inr, arith}
+use Rattle.std.proofs.Common.{◌≡◌, ℕ, ◌+◌, ◌-◌, ◌<◌, ◌≤◌, Bool, true, false, cond, ◌&&◌, ltb, length, None, sym, refl, ap, ◌∙◌, subst, arith}
 use lib.ListN.{length-replicate}
-use Rattle.std.proofs.lemmas.Bool.{false≢true, cases_eq, eq-eqb, ne_eqb, cond-true, cond-false}
+use Rattle.std.proofs.lemmas.Bool.Decides.{nat_tests}
 use Rattle.cell.specs.declared.cells.Cell.{Cell}
 use Rattle.cell.specs.declared.cells.Tag.{Tag}
 use Rattle.cell.specs.declared.cells.Tag.TheVariants.{Data, Command}
 use Rattle.cell.specs.declared.cells.Kind.TheVariants.{Count, Address}
 use Rattle.cell.specs.declared.cursor.Cursor.{Cursor}
-use Rattle.cell.specs.declared.lines.HostLines.{HostLines}
+use Rattle.cell.specs.declared.lines.Shown.{Shown}
 use Rattle.cell.specs.declared.lines.Answer.{Answer}
 use Rattle.cell.specs.Cells.{level_of, tag_at}
 use Rattle.cell.proofs.Laws.{tag_level}
@@ -18,7 +18,7 @@ use Rattle.inserter.specs.declared.front.Rule.TheVariants.{Acknowledge, Take, Re
 use Rattle.inserter.specs.Meaning.{Meaning, resting}
 use Rattle.inserter.specs.Rules.{fits_as, rule_of, acknowledging, refaced, carried, shown_cell, takes, Places, Looked}
 use Rattle.inserter.proofs.Quiet.{quiet}
-use Rattle.host.specs.Playing.{lines, ready, Asked, kept_of, Took, Gave, Given}
+use Rattle.host.specs.Playing.{lines, shown_as, ready, Asked, kept_of, Took, Gave, Given}
 
 -- forward, with PeriphAck low and patience p
 abbrev waiting : ℕ → Front
@@ -31,9 +31,9 @@ with m f = refaced m.free m f
 with_own : (m : Meaning) (f : Front) → m.front ≡ f → m ≡ with m f
 with_own m f e = ap (with m) e
 
--- a look as the code has it, at a meaning and lines that are known
-pub known : {d : ℕ} {h : HostLines} {b : ℕ} {m m₁ m' : Meaning} {r : Answer} (clk : Bool) (t : Tag) → m₁ ≡ m → h ≡ lines clk t → Looked d m₁ h b m' r → Looked d m (lines clk t) b m' r
-known {d} {h} {b} {m} {m₁} {m'} {r} clk t e f look = subst (λ x. Looked d m x b m' r) f (subst (λ x. Looked d x h b m' r) e look)
+-- a look as the code has it, at a meaning and a cell that are known
+pub known : {d : ℕ} {s : Shown} {m m₁ m' : Meaning} {r : Answer} (clk : Bool) (c : Cell) → m₁ ≡ m → s ≡ shown_as clk c → Looked d m₁ s.lines s.byte m' r → Looked d m (lines clk c.tag) c.byte m' r
+known {d} {s} {m} {m₁} {m'} {r} clk c e f look = subst (λ x. Looked d m x.lines x.byte m' r) f (subst (λ x. Looked d x s.lines s.byte m' r) e look)
 
 -- how a cell fits does not hang on the front
 fits_with : (t : Tag) (m : Meaning) (f : Front) → fits_as t (with m f) ≡ fits_as t m
@@ -79,7 +79,7 @@ module _ (d : ℕ) (c : Cell) (m : Meaning) where
       low_look d (cond (fits_as c.tag m) (d - i) d) c.tag m c.byte m' r l ∙ ap (with m) (go (fits_as c.tag m))
     where
       go : (g : Bool) → cond g (acknowledging d (waiting (cond g (d - i) d))) (waiting (cond g (d - i) d)) ≡ waiting (cond g (d - (i + 1)) d)
-      go true = cond-false (eqb (d - i) 0) _ _ (ne_eqb (d - i) 0 (λ e. omega arith)) ∙ ap waiting {x = d - i - 1} {y = d - (i + 1)} (omega arith)
+      go true = grind (arith, nat_tests)
       go false = refl
 
   -- the look that decides
@@ -89,7 +89,7 @@ module _ (d : ℕ) (c : Cell) (m : Meaning) where
       record { answer = ap (λ x. x.lines.ack) l.answer ∙ ap (λ x. x.front.ack) s ∙ acks (fits_as c.tag m); state = s }
     where
       go : (g : Bool) → cond g (acknowledging d (waiting (cond g (d - i) d))) (waiting (cond g (d - i) d)) ≡ cond g (ready d) (resting d)
-      go true = cond-true (eqb (d - i) 0) _ _ (eq-eqb (d - i) 0 (omega arith))
+      go true = grind (arith, nat_tests)
       go false = refl
 
       acks : (g : Bool) → (cond g (ready d) (resting d)).ack ≡ g
@@ -100,24 +100,16 @@ module _ (d : ℕ) (c : Cell) (m : Meaning) where
 pub adds_kept : (r : Cursor) (c : Cell) → cond (level_of c.tag && ltb r.channel 8) (repeats r.count) 0 ≡ kept_of r c
 adds_kept r c = by_tag c.tag
   where
-    by_test : (e t : Bool) → e ≡ true → cond t (repeats r.count) 0 ≡ length (cond (e && t) (replicate (repeats r.count) c.byte) [])
-    by_test true true h = sym (length-replicate (repeats r.count) c.byte)
-    by_test true false h = refl
-    by_test false t h = absurd (false≢true h)
-
     by_kind : (t : Bool) → 0 ≡ length (gained_by r (cond t (Count c.byte) (Address (c.byte - 128))) r.channel)
     by_kind true = refl
     by_kind false = refl
 
     by_tag : (t : Tag) → cond (level_of t && ltb r.channel 8) (repeats r.count) 0 ≡ kept_of r (record { byte = c.byte; tag = t })
-    by_tag Data = by_test (eqb r.channel r.channel) (ltb r.channel 8) (eq-eqb r.channel r.channel refl)
+    by_tag Data = grind (arith, nat_tests, length-replicate {A = ℕ})
     by_tag Command = by_kind (ltb c.byte 128)
 
 within : {c n : ℕ} {free free' : ℕ → ℕ} → Places c n free free' → (k : ℕ) → free k ≤ free' k + n
-within {c} {n} {free} {free'} p k = elim (cases_eq k c) [
-  | inl e ↦ subst (λ j. free j ≤ free' j + n) (sym e) (omega (arith, p.here))
-  | inr ne ↦ p.no_more k ne
-]
+within {c} {n} {free} {free'} p k = let here = p.here in let more = p.no_more k in grind arith
 
 module _ (d : ℕ) (c : Cell) (m : Meaning) (fit : fits_as c.tag m ≡ true) where
   -- HostClk high, once the cell is acknowledged: it is taken

@@ -2,7 +2,7 @@
 use Rattle.std.proofs.Common.{◌≡◌, ℕ, ◌+◌, ◌-◌, ◌*◌, ◌<◌, ◌≤◌, false, cond, ltb, List, [], ◌∷◌, ◌++◌, length, get_or, take, sym, refl, ap, ◌∙◌, subst, append_assoc, append-nil, add_assoc, add-mul, one-mul, zero-add, arith}
 use mathlib.Core.List.{map-append}
 use Rattle.std.proofs.lemmas.List.{take_more}
-use Rattle.std.proofs.lemmas.Bool.{lt-ltb, le-ltb, cond-true, cond-false}
+use Rattle.std.proofs.lemmas.Bool.Decides.{nat_tests}
 use Rattle.cell.specs.declared.cells.Cell.{Cell}
 use Rattle.cell.specs.declared.cursor.Cursor.{Cursor}
 use Rattle.cell.specs.Reading.{cell, cells, start, moved, gained, reached, reading}
@@ -60,13 +60,7 @@ pub looks_more : (n i e : ℕ) → n ≡ i * e → n + e ≡ (i + 1) * e
 looks_more n i e h = omega (arith, add-mul i 1 e, one-mul e)
 
 pub looks_stopped : (n i l d e : ℕ) → e ≡ d + 2 → n ≡ i * e → i < l → n + e - 1 ≡ i * (d + 2) + cond (ltb i l) (d + 1) 0
-looks_stopped n i l d e f h s =
-    let t : cond (ltb i l) (d + 1) 0 ≡ d + 1 = cond-true (ltb i l) (d + 1) 0 (lt-ltb i l s) in
-    let g : i * e ≡ i * (d + 2) = ap (λ x. i * x) f in
-    omega arith
+looks_stopped n i l d e f h s = grind (arith, nat_tests)
 
 pub looks_all : (n i l d e : ℕ) → e ≡ d + 2 → n ≡ i * e → l ≤ i → n ≡ i * (d + 2) + cond (ltb i l) (d + 1) 0
-looks_all n i l d e f h s =
-    let t : cond (ltb i l) (d + 1) 0 ≡ 0 = cond-false (ltb i l) (d + 1) 0 (le-ltb i l s) in
-    let g : i * e ≡ i * (d + 2) = ap (λ x. i * x) f in
-    omega arith
+looks_all n i l d e f h s = grind (arith, nat_tests)

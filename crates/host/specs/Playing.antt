@@ -4,6 +4,7 @@ use Rattle.cell.specs.declared.cells.Cell.{Cell}
 use Rattle.cell.specs.declared.cells.Tag.{Tag}
 use Rattle.cell.specs.declared.cells.Tag.TheVariants.{Data}
 use Rattle.cell.specs.declared.lines.HostLines.{HostLines}
+use Rattle.cell.specs.declared.lines.Shown.{Shown}
 use Rattle.cell.specs.Cells.{level_of}
 use Rattle.cell.specs.declared.cursor.Cursor.{Cursor}
 use Rattle.cell.specs.Reading.{cells, start, moved, gained, reached, reading}
@@ -15,6 +16,10 @@ use Rattle.inserter.specs.Rules.{fits_as, refaced}
 -- the host's lines with a cell on them: HostAck is its tag, and nReverseRequest is high
 abbrev pub lines : Bool → Tag → HostLines
 lines clk t = record { clk = clk; ack = level_of t; nreverse = true }
+
+-- a cell as the host shows it
+abbrev pub shown_as : Bool → Cell → Shown
+shown_as clk c = record { lines = lines clk c.tag; byte = c.byte }
 
 -- an inserter that has acknowledged a cell
 abbrev pub ready : ℕ → Front

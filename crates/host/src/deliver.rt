@@ -1,12 +1,14 @@
 // A caption, whole or not at all.
 ghost use Rattle.std.specs.Prelude.{◌≡◌, length, nat_le};
 ghost use Rattle.host.specs.Delivering.{Delivers};
+ghost use Rattle.host.specs.declared.deliver.Undelivered.TheVariants.{NoMemory};
 
 use super::play::{Played, play};
-use cell::channel::Channel;
 use inserter::interface::Inserter;
 use script::encode::encode;
-use std::alloc::Global;
+use script::lines::Caption;
+use std::alloc::{AllocError, Global};
+use std::error::Error;
 use std::fmt;
 
 // Why a caption was not sent. The inserter is then as it was.
@@ -27,27 +29,34 @@ impl fmt::Display for Undelivered {
     }
 }
 
-// Whether a channel has a place for each byte of a text.
-fn has_room<I: Inserter>(inserter: &I, channel: Channel, text: &[u8]) -> bool
-    ensures { result ≡ nat_le (length text.now) ((I.meaning inserter.now).free channel.number) }
+impl Error for Undelivered {}
+
+impl From<AllocError> for Undelivered {
+    ghost from_gives = { λ error why. why ≡ NoMemory };
+
+    fn from(_error: AllocError) -> Undelivered {
+        Self::NoMemory
+    }
+}
+
+// Whether a caption's channel has a place for each byte of its text.
+fn has_room<I: Inserter>(inserter: &I, caption: Caption<'_>) -> bool
+    ensures { result ≡ nat_le (length caption.entry.text.now) ((I.meaning inserter.now).free caption.entry.channel.number) }
 {
-    text.len() <= inserter.free(channel.number()) as usize
+    caption.text.len() <= inserter.free(u8::from(caption.channel)) as usize
 }
 
 // Gives a caption to an inserter of any make: where its channel has room, all of it arrives there and nothing anywhere else.
 pub fn deliver<I: Inserter>(
     heap: Global,
     inserter: &mut I,
-    channel: Channel,
-    text: &[u8],
+    caption: Caption<'_>,
 ) -> Result<Played, Undelivered>
-    ensures { Delivers I.delay channel.number text.now (I.meaning inserter.old) result (I.meaning inserter.new) }
+    ensures { Delivers I.delay caption.entry.channel.number caption.entry.text.now (I.meaning inserter.old) result (I.meaning inserter.new) }
 {
-    if !has_room(inserter, channel, text) {
+    if !has_room(inserter, caption) {
         return Err(Undelivered::NoRoom);
     }
-    let Ok(cells) = encode(heap, channel, text) else {
-        return Err(Undelivered::NoMemory);
-    };
+    let cells = encode(heap, caption.channel, caption.text)?;
     Ok(play(inserter, &cells))
 }

@@ -2,7 +2,7 @@
 ghost use Rattle.std.specs.Prelude.{IfOk, OnOk};
 ghost use Rattle.host.specs.Evening.{Noted, Evening};
 
-use super::line::{Line, play_line};
+use super::line::{Outcome, play_line};
 use inserter::interface::Inserter;
 use script::lines::cut_line;
 use std::alloc::{AllocError, Global};
@@ -10,7 +10,7 @@ use std::alloc::{AllocError, Global};
 // Plays one line, and notes what became of it.
 fn note_line<I: Inserter>(
     heap: Global,
-    told: &mut Vec<Line>,
+    told: &mut Vec<Outcome>,
     inserter: &mut I,
     line: &[u8],
 ) -> Result<(), AllocError>
@@ -26,7 +26,7 @@ pub fn play_script<I: Inserter>(
     heap: Global,
     inserter: &mut I,
     script: &[u8],
-) -> Result<Vec<Line>, AllocError>
+) -> Result<Vec<Outcome>, AllocError>
     ensures { IfOk result (λ v. Evening I.delay script.now (I.meaning inserter.old) v.items (I.meaning inserter.new)) }
 {
     let mut told = Vec::new(heap);

@@ -1,35 +1,62 @@
 // A line of the script, played to an inserter.
+ghost use Rattle.std.specs.Prelude.{◌≡◌};
 ghost use Rattle.host.specs.Lines.{Lined};
+ghost use Rattle.host.specs.declared.line.NotSent.TheVariants.{Bad, Undelivered};
 
 use super::deliver::{Undelivered, deliver};
 use super::play::Played;
 use inserter::interface::Inserter;
-use script::lines::{BadLine, channel_of, text_of};
+use script::lines::{BadLine, caption_of};
 use std::alloc::Global;
+use std::error::Error;
+use std::fmt;
 
-// What became of a line.
-#[derive(Clone, Copy)]
-pub enum Line {
-    Empty,
-    // it is no caption
+// Why nothing was sent for a line. The inserter is then as it was.
+#[derive(Clone, Copy, PartialEq, Eq, Debug)]
+pub enum NotSent {
+    // the line is no caption
     Bad(BadLine),
-    // its caption was not sent
-    Unsent(Undelivered),
-    Sent(Played),
+    // it is one that was not delivered
+    Undelivered(Undelivered),
 }
 
+impl fmt::Display for NotSent {
+    fn fmt<W: fmt::Write>(&self, f: &mut fmt::Formatter<W>) -> fmt::Result {
+        match self {
+            NotSent::Bad(why) => write!(f, "{why}"),
+            NotSent::Undelivered(why) => write!(f, "{why}"),
+        }
+    }
+}
+
+impl Error for NotSent {}
+
+impl From<BadLine> for NotSent {
+    ghost from_gives = { λ bad why. why ≡ Bad bad };
+
+    fn from(bad: BadLine) -> NotSent {
+        Self::Bad(bad)
+    }
+}
+
+impl From<Undelivered> for NotSent {
+    ghost from_gives = { λ undelivered why. why ≡ Undelivered undelivered };
+
+    fn from(undelivered: Undelivered) -> NotSent {
+        Self::Undelivered(undelivered)
+    }
+}
+
+// What became of a line. An empty one has nothing to send.
+pub type Outcome = Result<Option<Played>, NotSent>;
+
 // Plays one line to an inserter of any make, which stays as it was unless a caption is sent.
-pub fn play_line<I: Inserter>(heap: Global, inserter: &mut I, line: &[u8]) -> Line
+pub fn play_line<I: Inserter>(heap: Global, inserter: &mut I, line: &[u8]) -> Outcome
     ensures { Lined I.delay line.now (I.meaning inserter.old) result (I.meaning inserter.new) }
 {
     if line.is_empty() {
-        return Line::Empty;
+        return Ok(None);
     }
-    match channel_of(line) {
-        Err(bad) => Line::Bad(bad),
-        Ok(channel) => match deliver(heap, inserter, channel, text_of(line)) {
-            Err(why) => Line::Unsent(why),
-            Ok(played) => Line::Sent(played),
-        },
-    }
+    let played = deliver(heap, inserter, caption_of(line)?)?;
+    Ok(Some(played))
 }

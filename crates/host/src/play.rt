@@ -1,14 +1,14 @@
 // Cells given to an inserter, one after the other.
 ghost use Rattle.std.specs.Prelude.{◌≡◌, ◌+◌, ◌<◌};
 ghost use Rattle.inserter.specs.Meaning.{resting};
-ghost use Rattle.host.specs.Playing.{lines, Asked, Given, Plays};
+ghost use Rattle.host.specs.Playing.{shown_as, Asked, Given, Plays};
 
 use cell::cells::Cell;
-use cell::lines::HostLines;
+use cell::lines::{HostLines, Shown};
 use inserter::interface::Inserter;
 
 // What became of cells that were given to an inserter.
-#[derive(Clone, Copy)]
+#[derive(Clone, Copy, PartialEq, Eq, Debug)]
 pub struct Played {
     // how many it took
     pub taken: usize,
@@ -16,14 +16,18 @@ pub struct Played {
     pub looks: u128,
 }
 
-// The host's lines with a cell on them: HostAck is its tag, and nReverseRequest stays high.
-fn lines_with(cell: Cell, clk: bool) -> HostLines
-    ensures { result ≡ lines clk cell.tag }
+// A cell as the host shows it: its byte, HostAck as its tag, and nReverseRequest high.
+fn shown_as(cell: Cell, clk: bool) -> Shown
+    ensures { result ≡ shown_as clk cell }
 {
-    HostLines {
+    let lines = HostLines {
         clk,
-        ack: cell.tag.level(),
+        ack: bool::from(cell.tag),
         nreverse: true,
+    };
+    Shown {
+        lines,
+        byte: cell.byte,
     }
 }
 
@@ -40,11 +44,11 @@ fn acknowledged<I: Inserter>(inserter: &mut I, cell: Cell) -> bool
     requires { (I.meaning inserter.old).front ≡ resting I.delay }
     ensures { Asked I.delay cell (I.meaning inserter.old) result (I.meaning inserter.new) }
 {
-    let host = lines_with(cell, false);
+    let shown = shown_as(cell, false);
     for _past in 0..I::named_delay() {
-        let _ = inserter.look(host, cell.byte);
+        let _ = inserter.look(shown);
     }
-    inserter.look(host, cell.byte).lines.ack
+    inserter.look(shown).lines.ack
 }
 
 // Gives one cell to an inserter at rest, which takes it exactly where it fits.
@@ -54,7 +58,7 @@ fn give<I: Inserter>(inserter: &mut I, cell: Cell) -> bool
 {
     let ready = acknowledged(inserter, cell);
     if ready {
-        let _ = inserter.look(lines_with(cell, true), cell.byte);
+        let _ = inserter.look(shown_as(cell, true));
     }
     ready
 }
@@ -66,17 +70,13 @@ pub fn play<I: Inserter>(inserter: &mut I, cells: &[Cell]) -> Played
     let each = cost::<I>();
     let mut looks = 0;
     let _ = inserter.drop_cable();
-    for i in 0..cells.len() {
-        if !give(inserter, cells[i]) {
-            return Played {
-                taken: i,
-                looks: looks + each - 1,
-            };
+    for (taken, cell) in cells.iter().enumerate() {
+        if !give(inserter, *cell) {
+            let looks = looks + each - 1;
+            return Played { taken, looks };
         }
         looks += each;
     }
-    Played {
-        taken: cells.len(),
-        looks,
-    }
+    let taken = cells.len();
+    Played { taken, looks }
 }

@@ -1,18 +1,13 @@
 -- What lanes mean, and the memory that they were lent.
 use Rattle.std.specs.Prelude.{ℕ, List}
-use Rattle.cell.specs.declared.lines.HostLines.{HostLines}
 use Rattle.inserter.specs.Meaning.{Meaning}
-use Rattle.inserter.specs.Rules.{adds}
-use Rattle.lanes.specs.declared.Lanes.{Lanes}
-use Rattle.lanes.specs.Lanes.{lane, room, laned}
-use Rattle.handshake.specs.Seen.{seen, remembered}
+use Rattle.lanes.specs.declared.lane_bytes.LaneBytes.{LaneBytes}
+use Rattle.lanes.specs.Lanes.{lane, room}
+use Rattle.handshake.specs.declared.shaken.Handshake.{Handshake}
+use Rattle.handshake.specs.Seen.{seen}
 
-abbrev pub means : Lanes → Meaning
-means s = seen (λ t. lane t.bytes.now t.lens) (λ t. room t.bytes.now t.lens) s.shaken
+abbrev pub means : Handshake LaneBytes → Meaning
+means s = seen (λ t. lane t.bytes.now t.lens) (λ t. room t.bytes.now t.lens) s
 
-abbrev pub memory : Lanes → List ℕ
-memory s = s.shaken.store.bytes.now
-
--- the memory after a look: the bytes that it adds stand behind those that their channel holds, and every other place stays
-abbrev pub memory_after : List ℕ → Meaning → HostLines → ℕ → List ℕ
-memory_after bytes m h b = remembered laned (adds m h) bytes m b
+abbrev pub memory : Handshake LaneBytes → List ℕ
+memory s = s.store.bytes.now

@@ -1,32 +1,19 @@
 // Eight equal stretches of one lent slice, a lane for each channel.
-ghost use Rattle.std.specs.Prelude.{◌≡◌, ℕ, ◌<◌, ◌≤◌, min, List, length};
+ghost use Rattle.std.specs.Prelude.{◌≡◌, ℕ, ◌<◌, ◌≤◌, List, length};
 ghost use Rattle.handshake.specs.Storage.{Grown};
-ghost use Rattle.lanes.specs.Lanes.{lane_limit, stretch, used, lane, room, next_place, laned};
+ghost use Rattle.lanes.specs.Lanes.{stretch, used, lane, room, next_place, laned};
 
 use handshake::spread::spread;
 use handshake::storage::Storage;
 
-const LANE_LIMIT: u32 = 65_535;
-
 // The most places that a lane may have.
-pub fn longest_lane() -> u32
-    ensures { result ≡ lane_limit }
-{
-    LANE_LIMIT
-}
+pub(crate) const LANE_LIMIT: u32 = 65_535;
 
 #[derive(Drop)]
 pub struct LaneBytes<'a> {
-    pub bytes: &'a mut [u8],
-    // how many places of each lane are in use
-    pub lens: [u32; 8],
-}
-
-// The lesser of the two, which fits the smaller type.
-fn lesser(a: u32, b: usize) -> u32
-    ensures { result ≡ min a b }
-{
-    if (a as usize) <= b { a } else { b as u32 }
+    pub(crate) bytes: &'a mut [u8],
+    // How many places of each lane are in use. They stand beside the bytes, since all memory is lent and there is no heap.
+    pub(crate) lens: [u32; 8],
 }
 
 impl LaneBytes<'_> {
@@ -34,7 +21,7 @@ impl LaneBytes<'_> {
     fn stretch(&self) -> u32
         ensures { result ≡ stretch self.now.bytes.now }
     {
-        lesser(longest_lane(), self.bytes.len() / 8)
+        (self.bytes.len() / 8).min(LANE_LIMIT as usize) as u32
     }
 
     // How many places of a lane are in use.
@@ -42,9 +29,21 @@ impl LaneBytes<'_> {
         ensures { result ≡ used (stretch self.now.bytes.now) self.now.lens channel }
     {
         if channel < 8 {
-            lesser(self.lens[channel as usize], self.stretch() as usize)
+            self.lens[channel as usize].min(self.stretch())
         } else {
             0
+        }
+    }
+
+    // What a lane holds.
+    fn lane(&self, channel: u8) -> &[u8]
+        ensures { result.now ≡ lane self.now.bytes.now self.now.lens channel }
+    {
+        if channel < 8 {
+            let start = channel as usize * self.stretch() as usize;
+            &self.bytes[start..self.next_place(channel)]
+        } else {
+            &[]
         }
     }
 
@@ -69,6 +68,10 @@ impl LaneBytes<'_> {
 }
 
 impl Storage for LaneBytes<'_> {
+    const DELAY: u8 = 0;
+
+    ghost delay = { 0 };
+
     ghost held = { λ s. lane s.bytes.now s.lens };
 
     ghost free = { λ s. room s.bytes.now s.lens };
@@ -79,16 +82,18 @@ impl Storage for LaneBytes<'_> {
 
     ghost rewritten = { laned };
 
+    fn named_delay() -> u8
+        ensures { result ≡ 0 }
+    {
+        Self::DELAY
+    }
+
     fn length_on(&self, channel: u8) -> u32 {
-        self.used(channel)
+        self.lane(channel).len() as u32
     }
 
     fn byte_on(&self, channel: u8, place: u32) -> Option<u8> {
-        if place < self.used(channel) {
-            Some(self.bytes[channel as usize * self.stretch() as usize + place as usize])
-        } else {
-            None
-        }
+        self.lane(channel).get(place as usize).copied()
     }
 
     fn free_on(&self, channel: u8) -> u32 {

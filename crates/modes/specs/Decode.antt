@@ -1,7 +1,7 @@
 -- What an address means. Addresses are hexadecimal.
 use Rattle.std.specs.Prelude.{ℕ, Bool, cond, ◌||◌, Ok, Err, Result, ◌==◌}
-use Rattle.port_refusal.specs.declared.Refusal.{Refusal}
-use Rattle.port_refusal.specs.declared.Refusal.TheVariants.{Address, Access as NoAccess}
+use Rattle.refusal.specs.declared.Refusal.{Refusal}
+use Rattle.refusal.specs.declared.Refusal.TheVariants.{Address, Access as NoAccess}
 use Rattle.modes.specs.declared.mode.Mode.{Mode}
 use Rattle.modes.specs.declared.mode.Mode.TheVariants.{Spp, Byte, Ecp, Test, Config}
 use Rattle.modes.specs.declared.mode.Direction.{Direction}

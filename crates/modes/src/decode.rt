@@ -3,7 +3,7 @@ ghost use Rattle.std.specs.Prelude.{◌≡◌};
 ghost use Rattle.modes.specs.Decode.{decoded, read_at, written_at, elsewhere};
 
 use super::mode::{Direction, Mode};
-use port_refusal::Refusal;
+use refusal::Refusal;
 
 // The six addresses.
 pub const DATA: u16 = 0x000;
@@ -59,6 +59,8 @@ pub fn decode(
     }
 }
 
+// Reads and writes are a match each, with an arm for each line of the port's table of registers: the address, and as a guard
+// the mode and the direction that the line wants.
 fn read_at(address: u16, mode: Mode, direction: Direction) -> Result<Register, Refusal>
     ensures { result ≡ read_at address mode direction }
 {

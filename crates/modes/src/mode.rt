@@ -1,9 +1,12 @@
 // The modes of the port, and the direction of its cable.
-ghost use Rattle.std.specs.Prelude.{◌≡◌};
-ghost use Rattle.modes.specs.Modes.{code_of, mode_at, mode_in, admits, every, queues, forwards, outward, receives};
+ghost use Rattle.std.specs.Prelude.{◌≡◌, ok_or};
+ghost use Rattle.modes.specs.Modes.{code_of, mode_at, mode_in, inward, direction_at, admits, every, queues, forwards, outward, receives};
+
+use std::error::Error;
+use std::fmt;
 
 // Bits 7 to 5 of ECR.
-#[derive(Clone, Copy, PartialEq, Eq)]
+#[derive(Clone, Copy, PartialEq, Eq, Debug)]
 pub enum Mode {
     // 000: the standard port, output only
     Spp,
@@ -17,14 +20,19 @@ pub enum Mode {
     Config,
 }
 
+// Three bits that are none of the port's modes.
+#[derive(Clone, Copy, PartialEq, Eq, Debug)]
+pub struct NoMode(pub u8);
+
 // Bit 5 of DCR: 0 is out, 1 is in.
-#[derive(Clone, Copy, PartialEq, Eq)]
+#[derive(Clone, Copy, PartialEq, Eq, Debug)]
 pub enum Direction {
     Out,
     In,
 }
 
-// Which modes may be entered. It depends on what hangs on the cable.
+// Which modes may be entered. It depends on what hangs on the cable. There is a field for each mode, since a list of modes
+// would also have an order and repeats, and five bits of a number would not be named.
 #[derive(Clone, Copy)]
 pub struct Modes {
     pub spp: bool,
@@ -61,12 +69,12 @@ impl Modes {
     }
 }
 
-impl Mode {
-    // The three bits as a number.
-    pub fn code(self) -> u8
-        ensures { result ≡ code_of self }
-    {
-        match self {
+// The three bits as a number, and the mode that they say.
+impl From<Mode> for u8 {
+    ghost from_gives = { λ mode code. code ≡ code_of mode };
+
+    fn from(mode: Mode) -> u8 {
+        match mode {
             Mode::Spp => 0,
             Mode::Byte => 1,
             Mode::Ecp => 3,
@@ -74,62 +82,89 @@ impl Mode {
             Mode::Config => 7,
         }
     }
+}
 
+impl TryFrom<u8> for Mode {
+    type Error = NoMode;
+
+    ghost try_from_gives = { λ code result. result ≡ ok_or (mode_at code) (record { 0 = code }) };
+
+    fn try_from(code: u8) -> Result<Mode, NoMode> {
+        match code {
+            0 => Ok(Mode::Spp),
+            1 => Ok(Mode::Byte),
+            3 => Ok(Mode::Ecp),
+            6 => Ok(Mode::Test),
+            7 => Ok(Mode::Config),
+            _ => Err(NoMode(code)),
+        }
+    }
+}
+
+impl fmt::Display for NoMode {
+    fn fmt<W: fmt::Write>(&self, f: &mut fmt::Formatter<W>) -> fmt::Result {
+        write!(f, "the port has no mode {:03b}", self.0)
+    }
+}
+
+impl Error for NoMode {}
+
+// From a bit of a register, and to one.
+impl From<bool> for Direction {
+    ghost from_gives = { λ inward direction. direction ≡ direction_at inward };
+
+    fn from(inward: bool) -> Direction {
+        if inward {
+            Direction::In
+        } else {
+            Direction::Out
+        }
+    }
+}
+
+impl From<Direction> for bool {
+    ghost from_gives = { λ direction bit. bit ≡ inward direction };
+
+    fn from(direction: Direction) -> bool {
+        direction == Direction::In
+    }
+}
+
+impl Mode {
     // The mode that a byte written to ECR says, if the port has it.
     pub fn of_ecr(byte: u8) -> Option<Mode>
         ensures { result ≡ mode_in byte }
     {
-        Mode::from_code(byte / 32)
-    }
-
-    // The mode that three bits say.
-    fn from_code(code: u8) -> Option<Mode>
-        ensures { result ≡ mode_at code }
-    {
-        match code {
-            0 => Some(Mode::Spp),
-            1 => Some(Mode::Byte),
-            3 => Some(Mode::Ecp),
-            6 => Some(Mode::Test),
-            7 => Some(Mode::Config),
-            _ => None,
-        }
+        Mode::try_from(byte / 32).ok()
     }
 
     // Whether the queue is in use: full, empty and the thresholds are told of it.
     pub fn queues(self) -> bool
         ensures { result ≡ queues self }
     {
-        match self {
-            Mode::Ecp | Mode::Test => true,
-            _ => false,
-        }
+        matches!(self, Mode::Ecp | Mode::Test)
     }
 
-    // Whether cells stored now are forward cells, on their way to the far end.
+    // Whether cells stored now are forward cells, on their way to the far end. Mode and direction are two arguments, here and
+    // below, since two registers hold them: neither is written with the other.
     pub fn forwards(self, direction: Direction) -> bool
         ensures { result ≡ forwards self direction }
     {
         self == Mode::Ecp && direction == Direction::Out
     }
 
-    // Whether the queue faces outward, so that DMA fills it.
+    // Whether the queue faces outward, so that DMA fills it: just where cells that are stored are forward cells.
     pub fn outward(self, direction: Direction) -> bool
         ensures { result ≡ outward self direction }
     {
-        match (self, direction) {
-            (Mode::Ecp, Direction::Out) => true,
-            _ => false,
-        }
+        self.forwards(direction)
     }
 
-    // Whether cells come back from the far end into the queue.
+    // Whether cells come back from the far end into the queue. This and `forwards` are a comparison each: a function for both
+    // would need the direction wanted beside the direction.
     pub fn receives(self, direction: Direction) -> bool
         ensures { result ≡ receives self direction }
     {
-        match (self, direction) {
-            (Mode::Ecp, Direction::In) => true,
-            _ => false,
-        }
+        self == Mode::Ecp && direction == Direction::In
     }
 }

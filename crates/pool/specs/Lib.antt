@@ -1,3 +1,4 @@
 pub mod Pool
+pub mod Kept
 pub mod PoolMeaning
 pub mod Making

@@ -1,95 +1,91 @@
 // One pool of records in a lent slice, in the order of arrival, shared by all channels.
-ghost use Rattle.std.specs.Prelude.{◌≡◌, ◌≤◌, length};
-ghost use Rattle.handshake.specs.Storage.{Grown};
-ghost use Rattle.pool.specs.Pool.{pool_limit, places, in_use, record_of, pooled, left, Stored, stored, stored_after};
+ghost use Rattle.std.specs.Prelude.{◌≤◌, length};
+ghost use Rattle.pool.specs.Pool.{pool_limit};
 
 use super::by_channel::{counted, found};
 use super::record::Record;
 use handshake::spread::spread;
 use handshake::storage::Storage;
 
-fn record_of(channel: u8, byte: u8) -> Record
-    ensures { result ≡ record_of channel byte }
-{
-    Record { channel, byte }
-}
-
-const POOL_LIMIT: u32 = 65_535;
-
 // The most records that a pool may have.
-pub fn largest_pool() -> u32
-    ensures { result ≡ pool_limit }
-{
-    POOL_LIMIT
-}
+pub(crate) const POOL_LIMIT: usize = 65_535;
 
+// The memory is lent and fixed, so it is a slice with a count beside it, and no Vec.
 #[derive(Drop)]
 pub struct PoolRecords<'a> {
-    pub records: &'a mut [Record],
+    pub(crate) records: &'a mut [Record],
     // how many of them are in use, from the first on
-    pub used: u32,
+    pub(crate) used: usize,
+    ghost in_range: { (used ≤ length records.now) × (length records.now ≤ pool_limit) },
 }
 
 impl PoolRecords<'_> {
-    // How many records the pool has.
-    fn places(&self) -> u32
-        ensures { result ≡ places self.now.records.now }
+    ghost use Rattle.std.specs.Prelude.{◌≡◌, take};
+    ghost use Rattle.pool.specs.Pool.{in_use, left, stored_after};
+    ghost use Rattle.pool.specs.Kept.{held_by, free_in, lent_to};
+
+    fn in_use(&self) -> &[Record]
+        ensures { result.now ≡ take (in_use self.now.records.now self.now.used) self.now.records.now }
     {
-        self.records.len().min(largest_pool() as usize) as u32
+        &self.records[..self.used]
     }
 
-    // How many of them are in use.
-    fn in_use(&self) -> u32
-        ensures { result ≡ in_use self.now.records.now self.now.used }
+    // How many places are free, which all channels share.
+    fn left(&self) -> usize
+        ensures { result ≡ left self.now.records.now self.now.used }
     {
-        self.used.min(self.places())
-    }
-
-    // The place that comes next.
-    fn next_place(&self) -> usize
-        ensures { result ≡ in_use self.now.records.now self.now.used }
-    {
-        self.in_use() as usize
+        self.records.len() - self.used
     }
 
     // The byte n times more on a channel, where so many places are free.
-    fn append(&mut self, channel: u8, n: u32, byte: u8)
-        requires { n ≤ left self.old.records.now self.old.used }
-        ensures grown { Grown channel n byte (pooled self.old.records.now self.old.used) (λ k. left self.old.records.now self.old.used) (pooled self.new.records.now self.new.used) (λ k. left self.new.records.now self.new.used) }
-        ensures memory { stored self.new.records.now self.new.used ≡ stored_after (stored self.old.records.now self.old.used) (length (pooled self.old.records.now self.old.used channel)) channel n byte }
+    #[tactic(auto, using(crate::proofs::Pooling::appended))]
+    fn append(&mut self, channel: u8, n: usize, byte: u8)
+        requires { n ≤ free_in self.old channel }
+        ensures { lent_to self.new ≡ stored_after (lent_to self.old) (length (held_by self.old channel)) channel n byte }
     {
-        let at = self.next_place();
-        let have = self.in_use();
-        spread(self.records, at, n as usize, record_of(channel, byte));
-        self.used = have + n;
+        spread(self.records, self.used, n, Record { channel, byte });
+        self.used += n;
     }
 }
 
 impl Storage for PoolRecords<'_> {
-    ghost held = { λ s. pooled s.records.now s.used };
+    ghost use Rattle.std.specs.Prelude.{◌≡◌};
+    ghost use Rattle.pool.specs.Pool.{Stored, stored_after};
+    ghost use Rattle.pool.specs.Kept.{held_by, free_in, lent_to};
 
-    ghost free = { λ s k. left s.records.now s.used };
+    const DELAY: u8 = 2;
+
+    ghost delay = { 2 };
+
+    ghost held = { held_by };
+
+    ghost free = { free_in };
 
     ghost Memory = { Stored };
 
-    ghost memory = { λ s. stored s.records.now s.used };
+    ghost memory = { lent_to };
 
     ghost rewritten = { stored_after };
 
+    fn named_delay() -> u8
+        ensures { result ≡ 2 }
+    {
+        Self::DELAY
+    }
+
     fn length_on(&self, channel: u8) -> u32 {
-        counted(self.records, self.in_use(), channel)
+        counted(self.in_use(), channel) as u32
     }
 
     fn byte_on(&self, channel: u8, place: u32) -> Option<u8> {
-        found(self.records, self.in_use(), channel, place)
+        found(self.in_use(), channel, place as usize)
     }
 
-    // All channels share the free places.
     fn free_on(&self, _channel: u8) -> u32 {
-        self.places() - self.in_use()
+        self.left() as u32
     }
 
     fn put(&mut self, channel: u8, n: u32, byte: u8) {
-        self.append(channel, n.min(self.free_on(channel)), byte);
+        self.append(channel, (n as usize).min(self.left()), byte);
     }
 }

@@ -1,12 +1,8 @@
 -- What the queue means: its cells in order, the first to leave first.
-use Rattle.std.specs.Prelude.{ℕ, ◌+◌, Bool, cond, List, [], ◌∷◌, ◌++◌, length, take, Some, None, Ok, Err, Option, Result, ◌==◌, nat_le}
+use Rattle.std.specs.Prelude.{ℕ, ◌+◌, Bool, cond, List, [], ◌∷◌, ◌++◌, length, Some, None, Ok, Err, Option, Result, ◌==◌, nat_le}
 use Rattle.cell.specs.declared.cells.Cell.{Cell}
-use Rattle.queue.specs.declared.fifo.Queue.{Queue}
 use Rattle.queue.specs.declared.fifo.NoRoom.{NoRoom}
 use Rattle.queue.specs.Depth.{depth}
-
-abbrev pub cells_of : Queue → List Cell
-cells_of q = take q.len q.cells
 
 abbrev pub empty : List Cell → Bool
 empty cs = length cs == 0
@@ -25,11 +21,12 @@ room_answer b = cond b (Ok tt) (Err (record {}))
 abbrev pub pushed : Cell → List Cell → List Cell
 pushed c cs = cond (room 1 cs) (cs ++ c ∷ []) cs
 
-abbrev pub first : List Cell → Option Cell
-first [] = None
-first (c ∷ cs) = Some c
+module _ {T : Type 0} where
+  abbrev pub first : List T → Option T
+  first [] = None
+  first (c ∷ cs) = Some c
 
--- what is left once the first has left
-abbrev pub rest : List Cell → List Cell
-rest [] = []
-rest (c ∷ cs) = cs
+  -- what is left once the first has left
+  abbrev pub rest : List T → List T
+  rest [] = []
+  rest (c ∷ cs) = cs

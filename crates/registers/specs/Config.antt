@@ -1,6 +1,5 @@
 -- The fields of CnfgB: for a field as it was written, what it reads as and what it selects.
 use Rattle.std.specs.Prelude.{cond, ℕ, ◌%◌, eqb}
-use Rattle.registers.specs.declared.config.Row.{Row}
 
 -- IRQ, bits 5 to 3. The chip's rows: 010 reads 010 and selects line 9; 111 reads 111 and selects line 5; each other reads 001 and selects line 7
 abbrev pub irq_reads : ℕ → ℕ
@@ -16,10 +15,3 @@ dma_reads f = f % 4
 
 abbrev pub dma_channel : ℕ → ℕ
 dma_channel f = cond (eqb (f % 4) 0) 3 (f % 4)
-
--- both columns of a table, at a field
-abbrev pub irq_row : ℕ → Row
-irq_row f = record { reads = irq_reads f; selects = irq_line f }
-
-abbrev pub dma_row : ℕ → Row
-dma_row f = record { reads = dma_reads f; selects = dma_channel f }

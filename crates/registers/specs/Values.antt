@@ -1,8 +1,8 @@
 -- The bytes that registers read as.
 use Rattle.std.specs.Prelude.{Bool, true, false, not, ℕ, ◌+◌, ◌*◌}
 use Rattle.cell.specs.declared.lines.PeriphLines.{PeriphLines}
-use Rattle.modes.specs.declared.mode.Direction.{Direction}
 use Rattle.registers.specs.declared.values.Extended.{Extended}
+use Rattle.registers.specs.declared.written.ControlBits.{ControlBits}
 use Rattle.registers.specs.declared.config.Fields.{Fields}
 use Rattle.modes.specs.Modes.{code_of, inward}
 use Rattle.registers.specs.Config.{irq_reads, dma_reads}
@@ -18,8 +18,8 @@ status l =
     bit_of (not l.ack) 128 + bit_of l.clk 64 + bit_of l.nackreverse 32 + bit_of l.xflag 16 + bit_of l.nrequest 8 + 7
 
 -- DCR: bit 2, bit 4 (level interrupt) and bit 5 (direction); the others read 0
-abbrev pub control : Bool → Bool → Direction → ℕ
-control forward level d = bit_of forward 4 + bit_of level 16 + bit_of (inward d) 32
+abbrev pub control : ControlBits → ℕ
+control c = bit_of c.forward 4 + bit_of c.level 16 + bit_of (inward c.direction) 32
 
 -- CnfgA: always hexadecimal 10
 abbrev pub config_a : ℕ
@@ -32,4 +32,4 @@ config_b raised f = bit_of (not raised) 64 + irq_reads f.irq * 8 + dma_reads f.d
 -- ECR: bits 7 to 5 mode, 4 fault mask, 3 DMA, 2 service, 1 full, 0 empty
 abbrev pub extended : Extended → ℕ
 extended e =
-    code_of e.mode * 32 + bit_of e.mask 16 + bit_of e.dma 8 + bit_of e.service 4 + bit_of e.full 2 + bit_of e.empty 1
+    code_of e.mode * 32 + bit_of e.bits.mask 16 + bit_of e.bits.dma 8 + bit_of e.bits.service 4 + bit_of e.full 2 + bit_of e.empty 1

@@ -1,6 +1,6 @@
 // The two fields of CnfgB, each by a constant table of eight.
-ghost use Rattle.std.specs.Prelude.{◌≡◌};
-ghost use Rattle.registers.specs.Config.{irq_reads, irq_line, irq_row, dma_reads, dma_channel, dma_row};
+ghost use Rattle.std.specs.Prelude.{◌≡◌, ◌%◌};
+ghost use Rattle.registers.specs.Config.{irq_reads, irq_line, dma_reads, dma_channel};
 
 // The fields as they were written, three bits each.
 #[derive(Clone, Copy)]
@@ -13,7 +13,7 @@ pub struct Fields {
 
 // What a field reads as, and the interrupt line or the DMA channel that it selects.
 #[derive(Clone, Copy)]
-pub(crate) struct Row {
+struct Row {
     reads: u8,
     selects: u8,
 }
@@ -90,16 +90,11 @@ const DMA: [Row; 8] = [
     },
 ];
 
-fn irq_row(field: u8) -> Row
-    ensures { result ≡ irq_row field }
+// Where a field has its row. A field has three bits, and its table eight rows.
+fn place(field: u8) -> usize
+    ensures { result ≡ field % 8 }
 {
-    IRQ[(field % 8) as usize]
-}
-
-fn dma_row(field: u8) -> Row
-    ensures { result ≡ dma_row field }
-{
-    DMA[(field % 8) as usize]
+    usize::from(field % 8)
 }
 
 impl Fields {
@@ -107,27 +102,27 @@ impl Fields {
     pub(crate) fn irq_reads(self) -> u8
         ensures { result ≡ irq_reads self.irq }
     {
-        irq_row(self.irq).reads
+        IRQ[place(self.irq)].reads
     }
 
     // The selected interrupt line.
     pub fn irq_line(self) -> u8
         ensures { result ≡ irq_line self.irq }
     {
-        irq_row(self.irq).selects
+        IRQ[place(self.irq)].selects
     }
 
     // What bits 2 to 0 read as.
     pub(crate) fn dma_reads(self) -> u8
         ensures { result ≡ dma_reads self.dma }
     {
-        dma_row(self.dma).reads
+        DMA[place(self.dma)].reads
     }
 
     // The selected DMA channel.
     pub fn dma_channel(self) -> u8
         ensures { result ≡ dma_channel self.dma }
     {
-        dma_row(self.dma).selects
+        DMA[place(self.dma)].selects
     }
 }

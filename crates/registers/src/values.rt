@@ -1,39 +1,39 @@
 // The bytes that registers read as, bit by bit.
-ghost use Rattle.std.specs.Prelude.{◌≡◌};
+ghost use Rattle.std.specs.Prelude.{◌≡◌, ◌<◌, ◌^◌};
 ghost use Rattle.registers.specs.Values.{bit_of, status, control, extended, config_a, config_b};
 
 use super::config::Fields;
+use super::written::{ControlBits, ExtendedBits};
 use cell::lines::PeriphLines;
-use modes::mode::{Direction, Mode};
+use modes::mode::Mode;
 
-// What a bit of this weight adds to its byte.
-fn bit_of(bit: bool, weight: u8) -> u8
-    ensures { result ≡ bit_of bit weight }
+// What a bit of this number adds to its byte.
+fn bit_of(bit: bool, number: u8) -> u8
+    requires { number < 8 }
+    ensures { result ≡ bit_of bit (2 ^ number) }
 {
-    if bit { weight } else { 0 }
+    u8::from(bit) << number
 }
 
 // DSR: the far end's lines as they were last answered. PeriphAck reads inverted.
 pub fn status(lines: PeriphLines) -> u8
     ensures { result ≡ status lines }
 {
-    bit_of(!lines.ack, 128)
-        + bit_of(lines.clk, 64)
-        + bit_of(lines.nackreverse, 32)
-        + bit_of(lines.xflag, 16)
-        + bit_of(lines.nrequest, 8)
+    bit_of(!lines.ack, 7)
+        + bit_of(lines.clk, 6)
+        + bit_of(lines.nackreverse, 5)
+        + bit_of(lines.xflag, 4)
+        + bit_of(lines.nrequest, 3)
         + 7
 }
 
-// DCR: `forward` is bit 2, `level` bit 4, the direction bit 5.
-pub fn control(forward: bool, level: bool, direction: Direction) -> u8
-    ensures { result ≡ control forward level direction }
-{
-    let inward = match direction {
-        Direction::Out => false,
-        Direction::In => true,
-    };
-    bit_of(forward, 4) + bit_of(level, 16) + bit_of(inward, 32)
+// DCR. Its other bits read 0.
+impl From<ControlBits> for u8 {
+    ghost from_gives = { λ bits byte. byte ≡ control bits };
+
+    fn from(bits: ControlBits) -> u8 {
+        bit_of(bits.forward, 2) + bit_of(bits.level, 4) + bit_of(bool::from(bits.direction), 5)
+    }
 }
 
 // CnfgA: interrupts are pulsed, a word is one byte, and the byte in the transmitter is not counted in the queue.
@@ -47,30 +47,27 @@ pub fn config_a() -> u8
 pub fn config_b(raised: bool, fields: Fields) -> u8
     ensures { result ≡ config_b raised fields }
 {
-    bit_of(!raised, 64) + fields.irq_reads() * 8 + fields.dma_reads()
+    bit_of(!raised, 6) + fields.irq_reads() * 8 + fields.dma_reads()
 }
 
 // What ECR is read from.
 #[derive(Clone, Copy)]
 pub struct Extended {
     pub mode: Mode,
-    // faults raise no interrupt
-    pub mask: bool,
-    pub dma: bool,
-    pub service: bool,
+    pub bits: ExtendedBits,
     pub full: bool,
     pub empty: bool,
 }
 
-impl Extended {
-    pub fn byte(self) -> u8
-        ensures { result ≡ extended self }
-    {
-        self.mode.code() * 32
-            + bit_of(self.mask, 16)
-            + bit_of(self.dma, 8)
-            + bit_of(self.service, 4)
-            + bit_of(self.full, 2)
-            + bit_of(self.empty, 1)
+impl From<Extended> for u8 {
+    ghost from_gives = { λ read byte. byte ≡ extended read };
+
+    fn from(read: Extended) -> u8 {
+        u8::from(read.mode) * 32
+            + bit_of(read.bits.mask, 4)
+            + bit_of(read.bits.dma, 3)
+            + bit_of(read.bits.service, 2)
+            + bit_of(read.full, 1)
+            + bit_of(read.empty, 0)
     }
 }

@@ -1,5 +1,5 @@
 // What a byte says that is written to a register.
-ghost use Rattle.std.specs.Prelude.{◌≡◌, ◌<◌};
+ghost use Rattle.std.specs.Prelude.{◌≡◌, ◌<◌, ◌^◌};
 ghost use Rattle.registers.specs.Written.{bit, control_bits, plain, extended_bits, fields};
 
 use super::config::Fields;
@@ -27,54 +27,52 @@ pub struct ExtendedBits {
     pub service: bool,
 }
 
-// Whether the bit of this weight is 1.
-fn bit(weight: u8, byte: u8) -> bool
-    requires { 0 < weight }
-    ensures { result ≡ bit weight byte }
+// Whether the bit of this number is 1.
+fn bit(number: u8, byte: u8) -> bool
+    requires { number < 8 }
+    ensures { result ≡ bit (2 ^ number) byte }
 {
-    byte / weight % 2 == 1
+    byte >> number & 1 == 1
+}
+
+impl From<u8> for ControlBits {
+    ghost from_gives = { λ byte bits. bits ≡ control_bits byte };
+
+    fn from(byte: u8) -> ControlBits {
+        ControlBits {
+            forward: bit(2, byte),
+            level: bit(4, byte),
+            direction: Direction::from(bit(5, byte)),
+        }
+    }
 }
 
 impl ControlBits {
-    pub fn of(byte: u8) -> ControlBits
-        ensures { result ≡ control_bits byte }
-    {
-        ControlBits {
-            forward: bit(4, byte),
-            level: bit(16, byte),
-            direction: if bit(32, byte) {
-                Direction::In
-            } else {
-                Direction::Out
-            },
-        }
-    }
-
     // Whether no other bit is set, so that DCR can keep all of the byte.
     pub fn all_of(byte: u8) -> bool
         ensures { result ≡ plain byte }
     {
-        !(bit(1, byte) || bit(2, byte) || bit(8, byte) || bit(64, byte) || bit(128, byte))
+        !(bit(0, byte) || bit(1, byte) || bit(3, byte) || bit(6, byte) || bit(7, byte))
     }
 }
 
-impl ExtendedBits {
-    pub fn of(byte: u8) -> ExtendedBits
-        ensures { result ≡ extended_bits byte }
-    {
+impl From<u8> for ExtendedBits {
+    ghost from_gives = { λ byte bits. bits ≡ extended_bits byte };
+
+    fn from(byte: u8) -> ExtendedBits {
         ExtendedBits {
-            mask: bit(16, byte),
-            dma: bit(8, byte),
-            service: bit(4, byte),
+            mask: bit(4, byte),
+            dma: bit(3, byte),
+            service: bit(2, byte),
         }
     }
 }
 
-impl Fields {
-    // The fields of a byte that is written to CnfgB.
-    pub fn of(byte: u8) -> Fields
-        ensures { result ≡ fields byte }
-    {
+// The fields of a byte that is written to CnfgB.
+impl From<u8> for Fields {
+    ghost from_gives = { λ byte written. written ≡ fields byte };
+
+    fn from(byte: u8) -> Fields {
         Fields {
             irq: byte / 8 % 8,
             dma: byte % 8,

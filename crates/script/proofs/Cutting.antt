@@ -1,45 +1,30 @@
 -- A script cut after its first line.
-use Rattle.std.proofs.Common.{◌≡◌, ℕ, ◌+◌, ◌-◌, ◌<◌, ◌≤◌, min, true, false, eqb, List, [], ◌∷◌, ◌++◌, length, get_or, take, drop, sym, ap, ◌∙◌, inl, inr, append_assoc, append-nil, le_refl, le_of_lt, arith, length-drop, drop_of_length-le}
-use Rattle.std.proofs.lemmas.List.{take_more, take_all, drop_more}
-use Rattle.std.proofs.lemmas.Bool.{cases_lt, cond-true, cond-false}
+use Rattle.std.proofs.Common.{◌≡◌, ℕ, ◌+◌, ◌-◌, not, eqb, List, [], ◌∷◌, length, take, drop, Some, None, position, refl, arith, tests}
+use Rattle.std.specs.List.{before_first, after_first}
+use Rattle.std.proofs.lemmas.Grind.{common_steps}
+use Rattle.std.proofs.lemmas.List.Sums.{take_while-cons}
 use Rattle.script.specs.Lines.{first_line, later_lines}
 
--- the first i bytes have no line end
-pub record Passed (xs : List ℕ) (i : ℕ) : Type 0 where
-  pub first : first_line xs ≡ take i xs ++ first_line (drop i xs)
-  pub later : later_lines xs ≡ later_lines (drop i xs)
+first_before : (xs : List ℕ) → first_line xs ≡ before_first (λ byte. eqb byte 10) xs
+first_before [] = refl
+first_before (x ∷ xs) = grind (arith, tests, first_before xs, take_while-cons (λ byte. not (eqb byte 10)) x xs)
 
-module _ (xs : List ℕ) (i : ℕ) (p : Passed xs i) where
-  -- all was passed
-  pub no_end : length xs ≤ i → (xs ≡ first_line xs) × (◌≡◌ {A = List ℕ} [] (later_lines xs))
-  no_end h =
-      let e : drop i xs ≡ [] = drop_of_length-le xs h in (
-        sym (p.first ∙ ap (λ z. take i xs ++ first_line z) e ∙ append-nil (take i xs) ∙ take_all i xs h),
-        sym (p.later ∙ ap later_lines e),
-      )
+later_after : (xs : List ℕ) → later_lines xs ≡ after_first (λ byte. eqb byte 10) xs
+later_after [] = refl
+later_after (x ∷ xs) = grind (arith, tests, later_after xs)
 
-  module _ (h : i < length xs) where
-    pub here : eqb (get_or xs i 0) 10 ≡ true → (take i xs ≡ first_line xs) × (drop (i + 1) xs ≡ later_lines xs)
-    here t = (
-      sym (p.first ∙ ap (λ z. take i xs ++ first_line z) (drop_more xs i 0 h) ∙ ap (λ z. take i xs ++ z) (cond-true (eqb (get_or xs i 0) 10) _ _ t) ∙ append-nil (take i xs)),
-      sym (p.later ∙ ap later_lines (drop_more xs i 0 h) ∙ cond-true (eqb (get_or xs i 0) 10) _ _ t),
-    )
+-- a script with a line end at i
+pub first_cut : (xs : List ℕ) (i : ℕ) → Some i ≡ position (λ byte. eqb byte 10) xs → take i xs ≡ first_line xs
+first_cut xs i e = grind (arith, common_steps, tests, first_before xs)
 
-    pub on : eqb (get_or xs i 0) 10 ≡ false → Passed xs (i + 1)
-    on t =
-        record {
-          first = p.first ∙ ap (λ z. take i xs ++ first_line z) (drop_more xs i 0 h) ∙ ap (λ z. take i xs ++ z) (cond-false (eqb (get_or xs i 0) 10) _ _ t)
-              ∙ sym (append_assoc (take i xs) (get_or xs i 0 ∷ []) (first_line (drop (i + 1) xs))) ∙ ap (λ z. z ++ first_line (drop (i + 1) xs)) (sym (take_more xs i 0 h));
-          later = p.later ∙ ap later_lines (drop_more xs i 0 h) ∙ cond-false (eqb (get_or xs i 0) 10) _ _ t;
-        }
+pub later_cut : (xs : List ℕ) (i : ℕ) → Some i ≡ position (λ byte. eqb byte 10) xs → take (length xs - (i + 1)) (drop (i + 1) xs) ≡ later_lines xs
+later_cut xs i e = grind (arith, common_steps, tests, later_after xs)
 
--- a part to the end, as the code has it
-pub part : (xs : List ℕ) (i : ℕ) → take (length xs - i) (drop i xs) ≡ drop i xs
-part xs i = take_all (length xs - i) (drop i xs) (simp length-drop (omega arith))
+-- a script of one line
+pub first_whole : (xs : List ℕ) → None ≡ position (λ byte. eqb byte 10) xs → xs ≡ first_line xs
+first_whole xs e = grind (arith, common_steps, tests, first_before xs)
 
-pub drop_short : (xs : List ℕ) (i : ℕ) → drop (min (length xs) i) xs ≡ drop i xs
-drop_short xs i = elim (cases_lt (length xs) i) [
-  | inl l ↦ let e : min (length xs) i ≡ length xs = omega arith in
-      ap (λ j. drop j xs) e ∙ drop_of_length-le xs (le_refl (length xs)) ∙ sym (drop_of_length-le xs (le_of_lt l))
-  | inr l ↦ let e : min (length xs) i ≡ i = omega arith in ap (λ j. drop j xs) e
-]
+pub later_none : (xs : List ℕ) → None ≡ position (λ byte. eqb byte 10) xs → ◌≡◌ {A = List ℕ} [] (later_lines xs)
+later_none xs e = grind (arith, common_steps, tests, later_after xs)
+
+pub ruleset cuts = (first_cut, later_cut, first_whole, later_none)

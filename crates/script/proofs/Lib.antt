@@ -1,4 +1,4 @@
 pub mod Spelling
-mod Running
 mod Cutting
+mod Captions
 mod Digiting

@@ -1,5 +1,5 @@
 -- The lines of a script.
-use Rattle.std.specs.Prelude.{ℕ, ◌-◌, Bool, cond, ◌&&◌, ◌||◌, List, [], ◌∷◌, length, drop, Ok, Err, Result, ◌==◌, nat_le, nat_lt, slice_index}
+use Rattle.std.specs.Prelude.{ℕ, ◌-◌, Bool, cond, ◌&&◌, ◌||◌, List, [], ◌∷◌, length, drop, Some, None, Option, Ok, Err, Result, ◌==◌, nat_le, nat_lt, slice_index}
 use Rattle.script.specs.declared.lines.BadLine.{BadLine}
 use Rattle.script.specs.declared.lines.BadLine.TheVariants.{Channel, Text}
 
@@ -19,6 +19,16 @@ begins_well line = nat_le 48 (slice_index line 0) && (nat_lt (slice_index line 0
 -- what stands after the channel and the blank
 abbrev pub text_of : List ℕ → List ℕ
 text_of line = drop 2 line
+
+-- the letter that a line begins with and what stands after it and a blank, where a blank or nothing follows the letter
+abbrev pub letter_and_text : List ℕ → Option (ℕ × List ℕ)
+letter_and_text [] = None
+letter_and_text (x ∷ []) = Some (x, [])
+letter_and_text (x ∷ y ∷ ys) = cond (y == 32) (Some (x, ys)) None
+
+-- the channel that a letter stands for
+abbrev pub channel_at : ℕ → Option ℕ
+channel_at letter = cond (nat_le 48 letter && nat_lt letter 56) (Some (letter - 48)) None
 
 -- the channel and the text of a line, or why it is no caption
 abbrev pub parsed : List ℕ → Result (ℕ × List ℕ) BadLine

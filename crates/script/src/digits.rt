@@ -6,10 +6,9 @@ ghost use Rattle.script.specs.Digits.{digit_of, eight_digits};
 pub fn digit(letter: u8) -> Option<u8>
     ensures { result ≡ digit_of letter }
 {
-    if letter >= b'0' && letter <= b'9' {
-        Some(letter - b'0')
-    } else {
-        None
+    match letter {
+        b'0'..=b'9' => Some(letter - b'0'),
+        _ => None,
     }
 }
 
@@ -17,12 +16,6 @@ pub fn digit(letter: u8) -> Option<u8>
 pub fn eight_digits(word: &[u8]) -> Option<[u8; 8]>
     ensures { result ≡ eight_digits word.now }
 {
-    if word.len() != 8 {
-        return None;
-    }
-    let mut values = [0; 8];
-    for i in 0..8usize {
-        values[i] = digit(word[i])?;
-    }
-    Some(values)
+    let letters = <[u8; 8]>::try_from(word).ok()?;
+    letters.try_map(|letter| digit(letter).ok_or(())).ok()
 }

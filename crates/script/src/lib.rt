@@ -4,3 +4,4 @@
 pub mod digits;
 pub mod encode;
 pub mod lines;
+mod run;

@@ -1,7 +1,8 @@
 // A line of the script: a channel, a blank and a caption's text.
-ghost use Rattle.std.specs.Prelude.{◌≡◌, ◌<◌, min, length, Ok, Err, MatchResult, ◌==◌};
-ghost use Rattle.script.specs.Lines.{first_line, later_lines, text_of, parsed};
+ghost use Rattle.std.specs.Prelude.{◌≡◌, ◌<◌, length, position, Some, None, Ok, Err, MatchOption, MatchResult, ◌==◌};
+ghost use Rattle.script.specs.Lines.{first_line, later_lines, letter_and_text, channel_at, parsed};
 
+use super::digits::digit;
 use cell::channel::Channel;
 use std::fmt;
 
@@ -26,53 +27,60 @@ impl fmt::Display for BadLine {
     }
 }
 
-fn ends_line(byte: u8) -> bool
-    ensures { result ≡ (byte == 10) }
+// Where the first line of a script ends, unless the script ends before.
+fn line_end(script: &[u8]) -> Option<usize>
+    ensures { result ≡ position (λ byte. byte == 10) script.now }
 {
-    byte == b'\n'
+    script.iter().position(|byte| *byte == b'\n')
 }
 
 // The first line of a script without its line end, and the lines after it.
+#[tactic(auto, using(crate::proofs::Cutting::cuts))]
 pub fn cut_line(script: &[u8]) -> (&[u8], &[u8])
     ensures first { result.0.now ≡ first_line script.now }
     ensures later { result.1.now ≡ later_lines script.now }
     ensures shorter { 0 < length script.now → length result.1.now < length script.now }
 {
-    for i in 0..script.len() {
-        if ends_line(script[i]) {
-            return (&script[0..i], &script[i + 1..]);
-        }
+    match line_end(script) {
+        Some(end) => (&script[..end], &script[end + 1..]),
+        None => (script, &[]),
     }
-    (script, &script[script.len()..])
 }
 
-// The channel of a line that is a caption, or why it is none.
-pub fn channel_of(line: &[u8]) -> Result<Channel, BadLine>
-    ensures { MatchResult result (λ c. parsed line.now ≡ Ok (c.number, text_of line.now)) (λ e. parsed line.now ≡ Err e) }
+// What a line is where it is a caption.
+#[derive(Clone, Copy)]
+pub struct Caption<'a> {
+    pub channel: Channel,
+    pub text: &'a [u8],
+}
+
+// The letter that a line begins with, and what stands after it and a blank.
+fn letter_and_text(line: &[u8]) -> Option<(u8, &[u8])>
+    ensures { MatchOption result (letter_and_text line.now ≡ None) (λ p. letter_and_text line.now ≡ Some (p.0, p.1.now)) }
 {
-    if line.is_empty() || line[0] < b'0' || (line.len() > 1 && line[1] != b' ') {
-        return Err(BadLine::Channel);
+    match line {
+        [letter] => Some((*letter, &[])),
+        [letter, b' ', text @ ..] => Some((*letter, text)),
+        _ => None,
     }
-    let Some(channel) = Channel::new(line[0] - b'0') else {
-        return Err(BadLine::Channel);
-    };
-    if line.len() < 3 {
+}
+
+// The channel that a letter stands for.
+fn channel_at(letter: u8) -> Option<Channel>
+    ensures { MatchOption result (channel_at letter ≡ None) (λ c. channel_at letter ≡ Some c.number) }
+{
+    Channel::try_from(digit(letter)?).ok()
+}
+
+// The caption that a line is, or why it is none.
+#[tactic(auto, using(crate::proofs::Captions::in_turn))]
+pub fn caption_of(line: &[u8]) -> Result<Caption<'_>, BadLine>
+    ensures { MatchResult result (λ c. parsed line.now ≡ Ok (c.channel.number, c.text.now)) (λ e. parsed line.now ≡ Err e) }
+{
+    let (letter, text) = letter_and_text(line).ok_or(BadLine::Channel)?;
+    let channel = channel_at(letter).ok_or(BadLine::Channel)?;
+    if text.is_empty() {
         return Err(BadLine::Text);
     }
-    Ok(channel)
-}
-
-// Where a line's text begins.
-fn text_place(line: &[u8]) -> usize
-    ensures { result ≡ min (length line.now) 2 }
-{
-    line.len().min(2)
-}
-
-// The text of a line: what stands after its channel and the blank.
-pub fn text_of(line: &[u8]) -> &[u8]
-    ensures { result.now ≡ text_of line.now }
-{
-    let from = text_place(line);
-    &line[from..]
+    Ok(Caption { channel, text })
 }

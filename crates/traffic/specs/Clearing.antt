@@ -16,8 +16,7 @@ clears f = length (transmitter f.stage) + length f.queue + cond (nat_lt 0 f.wait
 
 -- queue, transmitter and waiting count are emptied, and the address is forgotten; it ends idle
 abbrev pub cleared_into : Mode → Direction → Flow → Flow
-cleared_into m d f =
-    record { mode = m; direction = d; forward = f.forward; queue = []; stage = Idle; waiting = 0; known = None; heard = f.heard }
+cleared_into m d f = record f { mode = m; direction = d; queue = []; stage = Idle; waiting = 0; known = None }
 
 abbrev pub cleared : Flow → Flow
 cleared f = cleared_into f.mode f.direction f
@@ -46,10 +45,8 @@ steering Test new old = old
 steering Config new old = old
 
 abbrev pub steered : Bool → Direction → Flow → Flow
-steered b d f =
-    record { mode = f.mode; direction = steering f.mode d f.direction; forward = b; queue = f.queue; stage = f.stage; waiting = f.waiting; known = f.known; heard = f.heard }
+steered b d f = record f { direction = steering f.mode d f.direction; forward = b }
 
 -- the lines and byte answered are kept
 abbrev pub keeping : Answer → Flow → Flow
-keeping a f =
-    record { mode = f.mode; direction = f.direction; forward = f.forward; queue = f.queue; stage = f.stage; waiting = f.waiting; known = f.known; heard = a }
+keeping a f = record f { heard = a }

@@ -7,8 +7,8 @@ use Rattle.modes.specs.declared.mode.Mode.TheVariants.{Spp, Byte, Ecp, Test, Con
 use Rattle.modes.specs.declared.mode.Direction.{Direction}
 use Rattle.modes.specs.declared.mode.Direction.TheVariants.{Out, In}
 use Rattle.queue.specs.Cells.{rest}
-use Rattle.traffic.specs.declared.outcome.Outcome.{Outcome}
-use Rattle.traffic.specs.declared.outcome.Outcome.TheVariants.{Empty, Ignored}
+use Rattle.traffic.specs.declared.undone.Undone.{Undone}
+use Rattle.traffic.specs.declared.undone.Undone.TheVariants.{Empty, Ignored}
 use Rattle.traffic.specs.Flow.{Flow}
 
 -- a command with bit 7 clear
@@ -30,9 +30,9 @@ abbrev pub uncounted : List Cell → List Cell
 uncounted [] = []
 uncounted (c ∷ q) = cond (is_count c) (uncounted q) (c ∷ q)
 
--- a byte, or the outcome that says why there is none
+-- a byte, or why there is none
 abbrev pub Got : Type 0
-Got = Result ℕ Outcome
+Got = Result ℕ Undone
 
 abbrev pub first_byte : List Cell → Got
 first_byte [] = Err Empty
@@ -49,15 +49,14 @@ queue_after w (c ∷ q) = cond (nat_lt 0 w) (c ∷ q) q
 
 -- another queue and waiting count, and all else as it was
 abbrev pub with_waiting : List Cell → ℕ → Flow → Flow
-with_waiting q w f =
-    record { mode = f.mode; direction = f.direction; forward = f.forward; queue = q; stage = f.stage; waiting = w; known = f.known; heard = f.heard }
+with_waiting q w f = record f { queue = q; waiting = w }
+
+abbrev pub given_out : Flow → Flow
+given_out f = with_waiting (queue_after f.waiting f.queue) (waiting_after f.waiting f.queue) f
 
 -- while cells come back, the first byte is given out as often as its count says
 abbrev pub given_back : Flow → Flow
-given_back f =
-    let w = counted f.waiting f.queue in
-    let q = uncounted f.queue in
-    with_waiting (queue_after w q) (waiting_after w q) f
+given_back f = given_out (with_waiting (uncounted f.queue) (counted f.waiting f.queue) f)
 
 -- in 011 with direction 1 the queue is expanded, with direction 0 the read is ignored; in 110 the first cell leaves as it is
 abbrev pub got_at : Mode → Direction → Flow → Got

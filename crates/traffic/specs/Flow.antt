@@ -1,4 +1,4 @@
--- What the record of traffic means: its fields, with the queue as a list.
+-- What is on its way through a port: what clauses see of its record, the queue as a list.
 use Rattle.std.specs.Prelude.{ℕ, Bool, false, List, [], None, Option}
 use Rattle.cell.specs.declared.cells.Cell.{Cell}
 use Rattle.cell.specs.declared.lines.Answer.{Answer}
@@ -8,10 +8,8 @@ use Rattle.modes.specs.declared.mode.Mode.TheVariants.{Spp}
 use Rattle.modes.specs.declared.mode.Direction.{Direction}
 use Rattle.modes.specs.declared.mode.Direction.TheVariants.{Out}
 use Rattle.modes.specs.Modes.{forwards, receives}
-use Rattle.queue.specs.Cells.{cells_of}
 use Rattle.traffic.specs.declared.stage.Stage.{Stage}
 use Rattle.traffic.specs.declared.stage.Stage.TheVariants.{Idle}
-use Rattle.traffic.specs.declared.record.Traffic.{Traffic}
 
 pub record Flow : Type 0 where
   pub mode : Mode
@@ -22,10 +20,6 @@ pub record Flow : Type 0 where
   pub waiting : ℕ
   pub known : Option ℕ
   pub heard : Answer
-
-abbrev pub flow_of : Traffic → Flow
-flow_of t =
-    record { mode = t.mode; direction = t.direction; forward = t.forward; queue = cells_of t.queue; stage = t.stage; waiting = t.waiting; known = t.known; heard = t.heard }
 
 -- a new port's: mode 000, direction 0, nothing on its way, no address known, and the far end's lines as handed to it
 abbrev pub new_flow : PeriphLines → Flow
@@ -42,5 +36,4 @@ gets f = receives f.mode f.direction
 
 -- another queue and stage, and all else as it was
 abbrev pub with_queue : List Cell → Stage → Flow → Flow
-with_queue q s f =
-    record { mode = f.mode; direction = f.direction; forward = f.forward; queue = q; stage = s; waiting = f.waiting; known = f.known; heard = f.heard }
+with_queue q s f = record f { queue = q; stage = s }

@@ -1,11 +1,11 @@
 -- The port's half of a step: at most one move, and what is then shown on the cable.
 use Rattle.std.specs.Prelude.{ℕ, Bool, true, false, cond, not, ◌&&◌, List, [], ◌∷◌, ◌++◌}
 use Rattle.cell.specs.declared.cells.Cell.{Cell}
-use Rattle.cell.specs.Cells.{level_of, tag_at}
+use Rattle.cell.specs.declared.lines.Shown.{Shown}
+use Rattle.cell.specs.Cells.{level_of, came_as}
 use Rattle.modes.specs.declared.mode.Mode.{Mode}
 use Rattle.modes.specs.declared.mode.Mode.TheVariants.{Spp, Byte, Ecp, Test, Config}
 use Rattle.queue.specs.Cells.{room}
-use Rattle.traffic.specs.declared.moving.Shown.{Shown}
 use Rattle.traffic.specs.declared.stage.Stage.{Stage}
 use Rattle.traffic.specs.declared.stage.Stage.TheVariants.{Idle, Low, High, Asked}
 use Rattle.traffic.specs.Flow.{Flow, sends, gets, with_queue}
@@ -25,7 +25,7 @@ may_ask f = gets f && (not f.forward && (not f.heard.lines.nackreverse && (not f
 
 -- the byte and PeriphAck as its tag
 abbrev pub heard_cell : Flow → Cell
-heard_cell f = record { byte = f.heard.byte; tag = tag_at f.heard.lines.ack }
+heard_cell f = came_as f.heard
 
 abbrev pub moved_at : Stage → Flow → Flow
 moved_at Idle f = cond (may_send f) (begun f.queue f) (cond (may_ask f) (with_queue f.queue Asked f) f)

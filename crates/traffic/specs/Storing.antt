@@ -1,13 +1,13 @@
 -- Storing cells in the queue: by a write, by a DMA cycle, or as a send.
-use Rattle.std.specs.Prelude.{ℕ, ◌+◌, ◌-◌, Bool, false, cond, ◌&&◌, List, [], ◌∷◌, ◌++◌, length, Some, None, Option, ◌==◌, nat_lt}
+use Rattle.std.specs.Prelude.{ℕ, ◌+◌, ◌-◌, Bool, false, cond, ◌&&◌, List, [], ◌∷◌, ◌++◌, length, Some, None, Ok, Err, Option, Result, ◌==◌, nat_lt}
 use Rattle.cell.specs.declared.cells.Cell.{Cell}
 use Rattle.cell.specs.declared.cells.Tag.TheVariants.{Data, Command}
 use Rattle.cell.specs.declared.cells.Kind.{Kind}
 use Rattle.cell.specs.declared.cells.Kind.TheVariants.{Byte, Count, Address}
 use Rattle.cell.specs.Cells.{kind_of}
 use Rattle.queue.specs.Cells.{room}
-use Rattle.traffic.specs.declared.outcome.Outcome.{Outcome}
-use Rattle.traffic.specs.declared.outcome.Outcome.TheVariants.{Done, Lost, Ignored}
+use Rattle.traffic.specs.declared.undone.Undone.{Undone}
+use Rattle.traffic.specs.declared.undone.Undone.TheVariants.{Lost, Ignored}
 use Rattle.traffic.specs.Flow.{Flow, sends, gets}
 
 -- a stored address becomes known, a stored count makes it unknown, and data leaves it
@@ -18,12 +18,11 @@ known_by (Address a) k = Some a
 
 -- cells at the end of the queue
 abbrev pub joined : List Cell → Option ℕ → Flow → Flow
-joined cs k f =
-    record { mode = f.mode; direction = f.direction; forward = f.forward; queue = f.queue ++ cs; stage = f.stage; waiting = f.waiting; known = k; heard = f.heard }
+joined cs k f = record f { queue = f.queue ++ cs; known = k }
 
 -- while cells come back a store is ignored; otherwise a store to a full queue is lost
-abbrev pub store_outcome : Flow → Outcome
-store_outcome f = cond (gets f) Ignored (cond (room 1 f.queue) Done Lost)
+abbrev pub store_outcome : Flow → Result (Unit {0}) Undone
+store_outcome f = cond (gets f) (Err Ignored) (cond (room 1 f.queue) (Ok tt) (Err Lost))
 
 abbrev pub stored : Cell → Flow → Flow
 stored c f = cond (gets f) f (cond (room 1 f.queue) (joined (c ∷ []) (known_by (kind_of c) f.known) f) f)

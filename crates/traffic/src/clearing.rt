@@ -1,6 +1,6 @@
 // A new record, clearing, and what a change of mode and a write of DCR do.
 ghost use Rattle.std.specs.Prelude.{◌≡◌};
-ghost use Rattle.traffic.specs.Flow.{flow_of, new_flow};
+ghost use Rattle.traffic.specs.Flow.{new_flow};
 ghost use Rattle.traffic.specs.Clearing.{clears, cleared, entered, entry_clears, steered, keeping};
 
 use super::record::Traffic;
@@ -12,7 +12,7 @@ use queue::fifo::Queue;
 impl Traffic {
     // Of a new port, with the far end's lines as they are handed over.
     pub fn new(lines: PeriphLines) -> Traffic
-        ensures { flow_of result ≡ new_flow lines }
+        ensures { result ≡ new_flow lines }
     {
         Traffic {
             mode: Mode::Spp,
@@ -28,20 +28,17 @@ impl Traffic {
 
     // How many cells a clearing would remove, and one more for a waiting count.
     pub fn clears(&self) -> u8
-        ensures { result ≡ clears (flow_of self.now) }
+        ensures { result ≡ clears self.now }
     {
-        let sent = match self.stage {
-            Stage::Low(_) => 1,
-            _ => 0,
-        };
-        let counted = if self.waiting > 0 { 1 } else { 0 };
+        let sent = u8::from(matches!(self.stage, Stage::Low(_)));
+        let counted = u8::from(self.waiting > 0);
         sent + self.queue.len() + counted
     }
 
     // Empties queue, transmitter and waiting count, and forgets the address.
     pub fn clear(&mut self) -> u8
-        ensures answer { result ≡ clears (flow_of self.old) }
-        ensures flow { flow_of self.new ≡ cleared (flow_of self.old) }
+        ensures answer { result ≡ clears self.old }
+        ensures flow { self.new ≡ cleared self.old }
     {
         let number = self.clears();
         self.queue = Queue::new();
@@ -53,8 +50,8 @@ impl Traffic {
 
     // Enters a mode: a change of mode clears.
     pub fn enter(&mut self, mode: Mode) -> u8
-        ensures answer { result ≡ entry_clears mode (flow_of self.old) }
-        ensures flow { flow_of self.new ≡ entered mode (flow_of self.old) }
+        ensures answer { result ≡ entry_clears mode self.old }
+        ensures flow { self.new ≡ entered mode self.old }
     {
         if mode == self.mode {
             return 0;
@@ -69,7 +66,7 @@ impl Traffic {
 
     // A write of DCR: bit 2, and the direction where the mode lets it change.
     pub fn steer(&mut self, forward: bool, direction: Direction)
-        ensures { flow_of self.new ≡ steered forward direction (flow_of self.old) }
+        ensures { self.new ≡ steered forward direction self.old }
     {
         self.forward = forward;
         if self.mode == Mode::Byte {
@@ -79,7 +76,7 @@ impl Traffic {
 
     // Keeps what the far end answered.
     pub fn keep(&mut self, answer: Answer)
-        ensures { flow_of self.new ≡ keeping answer (flow_of self.old) }
+        ensures { self.new ≡ keeping answer self.old }
     {
         self.heard = answer;
     }

@@ -1,11 +1,10 @@
 // The queue is read at 400.
 ghost use Rattle.std.specs.Prelude.{◌≡◌, if◌then◌else◌, Some, None};
-ghost use Rattle.queue.specs.Cells.{cells_of, first, rest};
-ghost use Rattle.traffic.specs.Flow.{flow_of};
-ghost use Rattle.traffic.specs.Fetching.{is_count, count_ahead, counted, uncounted, first_byte, with_waiting, queue_after, waiting_after, got, fetched};
+ghost use Rattle.queue.specs.Cells.{rest};
+ghost use Rattle.traffic.specs.Fetching.{is_count, count_ahead, counted, uncounted, first_byte, with_waiting, given_out, got, fetched};
 
-use super::outcome::Outcome;
 use super::record::Traffic;
+use super::undone::Undone;
 use cell::cells::{Cell, Kind};
 use modes::mode::{Direction, Mode};
 use queue::fifo::Queue;
@@ -14,7 +13,7 @@ use queue::fifo::Queue;
 fn count_of(cell: Cell) -> Option<u8>
     ensures { result ≡ (if is_count cell then Some cell.byte else None) }
 {
-    match cell.kind() {
+    match Kind::from(cell) {
         Kind::Count(n) => Some(n),
         _ => None,
     }
@@ -22,15 +21,15 @@ fn count_of(cell: Cell) -> Option<u8>
 
 // The count at the head of a queue, if one is there.
 fn count_ahead(queue: &Queue) -> Option<u8>
-    ensures { result ≡ count_ahead (cells_of queue.now) }
+    ensures { result ≡ count_ahead queue.now }
 {
     count_of(queue.first()?)
 }
 
 // Takes every count off the head. The last of them is the waiting count, or the one before where there is none.
 fn take_counts(queue: &mut Queue, waiting: u8) -> u8
-    ensures count { result ≡ counted waiting (cells_of queue.old) }
-    ensures left { cells_of queue.new ≡ uncounted (cells_of queue.old) }
+    ensures count { result ≡ counted waiting queue.old }
+    ensures left { queue.new ≡ uncounted queue.old }
 {
     let mut count = waiting;
     while let Some(n) = count_ahead(queue) {
@@ -41,10 +40,11 @@ fn take_counts(queue: &mut Queue, waiting: u8) -> u8
 }
 
 impl Traffic {
-    // A byte of the queue, or the outcome that says why there is none.
-    pub fn fetch(&mut self) -> Result<u8, Outcome>
-        ensures byte { result ≡ got (flow_of self.old) }
-        ensures flow { flow_of self.new ≡ fetched (flow_of self.old) }
+    // A byte of the queue, or why there is none.
+    #[tactic(auto, using(crate::proofs::Taking::room_uncounted))]
+    pub fn fetch(&mut self) -> Result<u8, Undone>
+        ensures byte { result ≡ got self.old }
+        ensures flow { self.new ≡ fetched self.old }
     {
         match (self.mode, self.direction) {
             (Mode::Ecp, Direction::In) => {
@@ -52,18 +52,16 @@ impl Traffic {
                 self.give_out()
             }
             (Mode::Test, _) => self.give_plain(),
-            _ => Err(Outcome::Ignored),
+            _ => Err(Undone::Ignored),
         }
     }
 
     // The first byte: it stays while the waiting count says so.
-    fn give_out(&mut self) -> Result<u8, Outcome>
-        ensures byte { result ≡ first_byte (cells_of self.old.queue) }
-        ensures flow { flow_of self.new ≡ with_waiting (queue_after self.old.waiting (cells_of self.old.queue)) (waiting_after self.old.waiting (cells_of self.old.queue)) (flow_of self.old) }
+    fn give_out(&mut self) -> Result<u8, Undone>
+        ensures byte { result ≡ first_byte self.old.queue }
+        ensures flow { self.new ≡ given_out self.old }
     {
-        let Some(cell) = self.queue.first() else {
-            return Err(Outcome::Empty);
-        };
+        let cell = self.queue.first().ok_or(Undone::Empty)?;
         if self.waiting > 0 {
             self.waiting -= 1;
         } else {
@@ -73,13 +71,11 @@ impl Traffic {
     }
 
     // The first cell leaves as it is.
-    fn give_plain(&mut self) -> Result<u8, Outcome>
-        ensures byte { result ≡ first_byte (cells_of self.old.queue) }
-        ensures flow { flow_of self.new ≡ with_waiting (rest (cells_of self.old.queue)) self.old.waiting (flow_of self.old) }
+    fn give_plain(&mut self) -> Result<u8, Undone>
+        ensures byte { result ≡ first_byte self.old.queue }
+        ensures flow { self.new ≡ with_waiting (rest self.old.queue) self.old.waiting self.old }
     {
-        match self.queue.take_first() {
-            Some(cell) => Ok(cell.byte),
-            None => Err(Outcome::Empty),
-        }
+        let cell = self.queue.take_first().ok_or(Undone::Empty)?;
+        Ok(cell.byte)
     }
 }

@@ -4,7 +4,7 @@
 pub mod clearing;
 pub mod fetching;
 pub mod moving;
-pub mod outcome;
 pub mod record;
 pub mod stage;
 pub mod storing;
+pub mod undone;

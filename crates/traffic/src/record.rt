@@ -1,27 +1,84 @@
-// The record of what is on its way.
-ghost use Rattle.std.specs.Prelude.{◌≡◌, true};
-ghost use Rattle.queue.specs.Cells.{cells_of};
+// The record of what is on its way, and what it is asked.
+ghost use Rattle.std.specs.Prelude.{◌≡◌, ◌≤◌, true, length};
+ghost use Rattle.queue.specs.Depth.{depth};
 ghost use Rattle.traffic.specs.Stages.{asks_rightly, asks_with_room};
 
 use super::stage::Stage;
 use cell::lines::Answer;
 use modes::mode::{Direction, Mode};
 use queue::fifo::Queue;
+use std::marker::Model;
 
 #[derive(Drop)]
 pub struct Traffic {
-    pub mode: Mode,
-    pub direction: Direction,
+    pub(crate) mode: Mode,
+    pub(crate) direction: Direction,
     // bit 2 of DCR: nReverseRequest, in the modes that drive it
-    pub forward: bool,
-    pub queue: Queue,
-    pub stage: Stage,
+    pub(crate) forward: bool,
+    pub(crate) queue: Queue,
+    pub(crate) stage: Stage,
     // how many times more than once the first byte of the queue is still to be given out
-    pub waiting: u8,
+    pub(crate) waiting: u8,
     // the channel address last stored, 0 to 127, or none known
-    pub known: Option<u8>,
+    pub(crate) known: Option<u8>,
     // the far end's lines and byte as last answered
-    pub heard: Answer,
-    ghost rightly: { asks_rightly stage mode direction ≡ true },
-    ghost roomy: { asks_with_room stage (cells_of queue) ≡ true },
+    pub(crate) heard: Answer,
+}
+
+// Clauses see what is on its way. A cell is asked for only while cells come back, and only with a place for it.
+impl Model for Traffic {
+    ghost use Rattle.std.specs.Prelude.{◌≡◌, true};
+    ghost use Rattle.traffic.specs.Flow.{Flow};
+    ghost use Rattle.traffic.specs.Stages.{asks_rightly, asks_with_room};
+
+    ghost Value = { Flow };
+
+    ghost view = { λ t. record { mode = t.mode; direction = t.direction; forward = t.forward; queue = t.queue; stage = t.stage; waiting = t.waiting; known = t.known; heard = t.heard } };
+
+    ghost invariant = { λ t. (asks_rightly t.stage t.mode t.direction ≡ true) × (asks_with_room t.stage t.queue ≡ true) };
+}
+
+impl Traffic {
+    pub fn mode(&self) -> Mode
+        ensures { result ≡ self.now.mode }
+    {
+        self.mode
+    }
+
+    pub fn direction(&self) -> Direction
+        ensures { result ≡ self.now.direction }
+    {
+        self.direction
+    }
+
+    // Bit 2 of DCR.
+    pub fn forward(&self) -> bool
+        ensures { result ≡ self.now.forward }
+    {
+        self.forward
+    }
+
+    // How many cells are in the queue.
+    pub fn queued(&self) -> u8
+        ensures is { result ≡ length self.now.queue }
+        ensures bounded { result ≤ depth }
+    {
+        self.queue.len()
+    }
+
+    // Where it stands, and that a cell is asked for only where it may come.
+    pub fn stage(&self) -> Stage
+        ensures is { result ≡ self.now.stage }
+        ensures rightly { asks_rightly self.now.stage self.now.mode self.now.direction ≡ true }
+        ensures roomy { asks_with_room self.now.stage self.now.queue ≡ true }
+    {
+        self.stage
+    }
+
+    // What the far end answered last.
+    pub fn heard(&self) -> Answer
+        ensures { result ≡ self.now.heard }
+    {
+        self.heard
+    }
 }

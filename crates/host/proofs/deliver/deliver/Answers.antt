@@ -9,8 +9,8 @@ returns g c =
     let d = g.I.Inserter.delay in
     let means = g.I.Inserter.meaning in
     let m = means c.args.inserter.now in
-    let channel = c.args.channel in
+    let channel = c.args.caption.channel in
     let p = c.play.result in
-    arrives d channel.number c.args.text.now channel.kept m (means c.play.new.inserter) p
-    (leb-true (length c.args.text.now) (m.free channel.number) (sym c.if-not-has_room.ensures))
-    (subst (λ cs. Plays d m cs (means c.play.new.inserter) p.taken p.looks) (c.deref.ensures.value ∙ c.in-Ok.ensures.cells) c.play.ensures)
+    arrives d channel.number c.args.caption.text.now channel.kept m (means c.play.new.inserter) p
+    (leb-true (length c.args.caption.text.now) (m.free channel.number) (sym c.if-not-has_room.ensures))
+    (subst (λ cs. Plays d m cs (means c.play.new.inserter) p.taken p.looks) (c.deref.ensures.value ∙ c.in_ok-cells.ensures.cells) c.play.ensures)

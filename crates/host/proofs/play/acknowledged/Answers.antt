@@ -9,10 +9,10 @@ pub loop-past-preserved : goal.loop-past-preserved
 loop-past-preserved g c =
     let means = g.I.Inserter.meaning in
     once_more g.I.Inserter.delay c.args.cell (means c.args.inserter.now) c.loop-past._past (omega (arith, c.named_delay-past-end.ensures)) (means c.look.new.self) c.look.result
-    (known false c.args.cell.tag c.loop-past.invariant c.lines_with-host.ensures c.look.ensures)
+    (known false c.args.cell c.loop-past.invariant c.shown_as-shown.ensures c.look.ensures)
 
 pub returns : goal.returns
 returns g c =
     let means = g.I.Inserter.meaning in
     at_last g.I.Inserter.delay c.args.cell (means c.args.inserter.now) c.loop-past._past (omega (arith, c.named_delay-past-end.ensures)) (means c.look-2.new.self) c.look-2.result
-    (known false c.args.cell.tag c.loop-past.invariant c.lines_with-host.ensures c.look-2.ensures)
+    (known false c.args.cell c.loop-past.invariant c.shown_as-shown.ensures c.look-2.ensures)

@@ -6,7 +6,7 @@ pub returns-then-ready : goal.returns-then-ready
 returns-then-ready g c =
     let means = g.I.Inserter.meaning in
     gave g.I.Inserter.delay c.args.cell (means c.args.inserter.now) c.acknowledged-ready.result (means c.acknowledged-ready.new.inserter) c.acknowledged-ready.ensures
-    c.if-ready.true (means c.look.new.self) c.look.result (known true c.args.cell.tag refl c.lines_with.ensures c.look.ensures)
+    c.if-ready.true (means c.look.new.self) c.look.result (known true c.args.cell refl c.shown_as.ensures c.look.ensures)
 
 pub returns-else-ready : goal.returns-else-ready
 returns-else-ready g c =

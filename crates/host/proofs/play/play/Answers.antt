@@ -4,23 +4,23 @@ use Rattle.host.specs.Playing.{Gave, Plays, no_cell}
 use Rattle.host.proofs.Playing.{SoFar, none_yet, one_more, played, looks_more, looks_stopped, looks_all}
 use Rattle.host.proofs.play.play.Goals as goal
 
-pub loop-i-init : goal.loop-i-init
-loop-i-init g c =
+pub loop-taken-init : goal.loop-taken-init
+loop-taken-init g c =
     (none_yet g.I.Inserter.delay (g.I.Inserter.meaning c.args.inserter.now) (g.I.Inserter.meaning c.drop_cable.new.self) c.args.cells.now c.drop_cable.ensures.state, sym (zero-mul _))
 
 pub give-requires : goal.give-requires
-give-requires g c = c.loop-i.invariant.0.front
+give-requires g c = c.loop-taken.invariant.0.front
 
-pub loop-i-preserved : goal.loop-i-preserved
-loop-i-preserved g c =
+pub loop-taken-preserved : goal.loop-taken-preserved
+loop-taken-preserved g c =
     let d = g.I.Inserter.delay in
     let means = g.I.Inserter.meaning in
     let cs = c.args.cells.now in
-    let i = c.loop-i.i in
+    let i = c.loop-taken.taken in
     let m' = means c.give.new.inserter in (
-      one_more d (means c.drop_cable.new.self) cs i (means c.loop-i.inserter) c.loop-i.invariant.0 c.loop-i-test.true m'
-          (subst (λ r. Gave r d (get_or cs i no_cell) (means c.loop-i.inserter) m') c.if-not-give.false c.give.ensures.gave),
-      looks_more c.loop-i.looks i c.cost-each.result c.loop-i.invariant.1,
+      one_more d (means c.drop_cable.new.self) cs i (means c.loop-taken.inserter) c.loop-taken.invariant.0 c.loop-taken-test.true m'
+          (subst (λ r. Gave r d (get_or cs i no_cell) (means c.loop-taken.inserter) m') c.if-not-give.false c.give.ensures.gave),
+      looks_more c.loop-taken.looks i c.cost-each.result c.loop-taken.invariant.1,
     )
 
 pub returns-then-not-give : goal.returns-then-not-give
@@ -28,13 +28,13 @@ returns-then-not-give g c =
     let d = g.I.Inserter.delay in
     let means = g.I.Inserter.meaning in
     let cs = c.args.cells.now in
-    let i = c.loop-i.i in
+    let i = c.loop-taken.taken in
     let m' = means c.give.new.inserter in
-    let same = subst (λ r. Gave r d (get_or cs i no_cell) (means c.loop-i.inserter) m') c.if-not-give.true c.give.ensures.gave in
-    let so = subst (SoFar d (means c.drop_cable.new.self) cs i) (sym same) c.loop-i.invariant.0 in
-    played d (means c.drop_cable.new.self) cs i m' so (means c.args.inserter.now) _ c.loop-i.auto.i-end
+    let same = subst (λ r. Gave r d (get_or cs i no_cell) (means c.loop-taken.inserter) m') c.if-not-give.true c.give.ensures.gave in
+    let so = subst (SoFar d (means c.drop_cable.new.self) cs i) (sym same) c.loop-taken.invariant.0 in
+    played d (means c.drop_cable.new.self) cs i m' so (means c.args.inserter.now) _ c.loop-taken.auto.taken-end
     (λ _. ap (fits_as (get_or cs i no_cell).tag) same ∙ sym c.give.ensures.answer ∙ c.if-not-give.true)
-    (looks_stopped c.loop-i.looks i (length cs) d c.cost-each.result c.cost-each.ensures.cost c.loop-i.invariant.1 c.loop-i-test.true)
+    (looks_stopped c.loop-taken.looks i (length cs) d c.cost-each.result c.cost-each.ensures.cost c.loop-taken.invariant.1 c.loop-taken-test.true)
     c.drop_cable.ensures.state
 
 pub returns : goal.returns
@@ -42,10 +42,10 @@ returns g c =
     let d = g.I.Inserter.delay in
     let means = g.I.Inserter.meaning in
     let cs = c.args.cells.now in
-    let i = c.loop-i.i in
-    let m' = means c.loop-i.inserter in
-    subst (λ n. Plays d (means c.args.inserter.now) cs m' n c.loop-i.looks) {x = i} {y = length cs} (omega arith)
-    (played d (means c.drop_cable.new.self) cs i m' c.loop-i.invariant.0 (means c.args.inserter.now) c.loop-i.looks c.loop-i.auto.i-end
+    let i = c.loop-taken.taken in
+    let m' = means c.loop-taken.inserter in
+    subst (λ n. Plays d (means c.args.inserter.now) cs m' n c.loop-taken.looks) {x = i} {y = length cs} (omega arith)
+    (played d (means c.drop_cable.new.self) cs i m' c.loop-taken.invariant.0 (means c.args.inserter.now) c.loop-taken.looks c.loop-taken.auto.taken-end
     (λ s. absurd (omega arith))
-    (looks_all c.loop-i.looks i (length cs) d c.cost-each.result c.cost-each.ensures.cost c.loop-i.invariant.1 c.loop-i-test.false)
+    (looks_all c.loop-taken.looks i (length cs) d c.cost-each.result c.cost-each.ensures.cost c.loop-taken.invariant.1 c.loop-taken-test.false)
     c.drop_cable.ensures.state)

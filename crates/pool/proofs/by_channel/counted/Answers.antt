@@ -1,12 +1,11 @@
-use Rattle.std.proofs.Common.{arith}
-use Rattle.std.proofs.lemmas.Bool.Decides.{nat_tests}
-use Rattle.pool.proofs.Pooling.{one_more}
+use Rattle.std.proofs.Common.{rules, tests}
+use Rattle.std.proofs.lemmas.Iterator.{YieldsList-from_slice}
+use Rattle.std.proofs.lemmas.Iterator.Consumers.{count_from_yields_List, YieldsList-from_filter}
+use Rattle.std.proofs.lemmas.List.{length-map}
+use Rattle.pool.specs.Pool.{is_on}
 use Rattle.pool.proofs.by_channel.counted.Goals as goal
 
-pub loop-i-preserved : goal.loop-i-preserved
-loop-i-preserved c =
-    let e = one_more c.args.channel c.args.records.now c.loop-i.i (record { channel = 0; byte = 0 }) (omega arith) in
-    elim c.if-is_on.branch [
-      | goal.then-is_on w ↦ (grind (arith, nat_tests), omega arith)
-      | goal.else-is_on w ↦ (grind (arith, nat_tests), omega arith)
-    ]
+pub returns-clause-number : goal.returns-clause-number
+returns-clause-number c =
+    simp length-map (count_from_yields_List c.filter.result c.count.result c.count.ensures.ran
+    (YieldsList-from_filter _ (is_on c.args.channel) (YieldsList-from_slice c.args.records.now cc) c.filter.ensures.closure (λ x r q k. search (rules, tests))))

@@ -1,32 +1,17 @@
-use Rattle.std.proofs.Common.{eqb, length, sym, ◌∙◌, arith, rules}
-use Rattle.std.proofs.lemmas.Bool.{cond-true, eq-eqb}
-use Rattle.script.specs.Digits.{digits_of}
-use Rattle.script.proofs.Digiting.{more, none_at, all_read}
+use Rattle.std.proofs.Common.{◌≡◌, ◌∙◌, None, sym, ap, arith, rules}
+use Rattle.std.proofs.lemmas.List.{get_or_default}
+use Rattle.script.specs.Digits.{digit_of}
+use Rattle.script.proofs.Digiting.{whole, tried}
 use Rattle.script.proofs.digits.eight_digits.Goals as goal
-
-pub loop-i-init : goal.loop-i-init
-loop-i-init c = (λ j l. absurd (omega arith), search rules)
-
-pub returns-in_err-values : goal.returns-in_err-values
-returns-in_err-values c =
-    let w = c.args.word.now in
-    let eight = c.if-word-ne8.false in
-    c.from_residual.ensures
-    ∙ sym (cond-true (eqb (length w) 8) (digits_of w) _ (eq-eqb (length w) 8 eight)
-    ∙ none_at w c.loop-i.i (omega (arith, eight, c.loop-i-test.true)) (sym c.digit.ensures ∙ c.in_err-values.was))
-
-pub loop-i-preserved : goal.loop-i-preserved
-loop-i-preserved c =
-    let l = c.loop-i in
-    let v = c.in_ok-values.field-0 in (
-      more c.args.word.now l.values l.i v (omega (arith, l.invariant.1, c.loop-i-test.true)) (sym c.digit.ensures ∙ c.in_ok-values.was) l.invariant.0,
-      search rules,
-    )
 
 pub returns : goal.returns
 returns c =
-    let w = c.args.word.now in
-    let eight = c.if-word-ne8.false in
-    let inv = c.loop-i.invariant in
-    sym (cond-true (eqb (length w) 8) (digits_of w) _ (eq-eqb (length w) 8 eight)
-    ∙ all_read w c.loop-i.values (eight ∙ sym inv.1) (λ j l. inv.0 j (omega (arith, eight, l, c.loop-i-test.false))))
+    let letters = c.in_ok-letters.letters in
+    let w = whole c.args.word.now letters c.try_from.result _ c.in_ok-letters.ensures.value c.try_from.ensures.1 in
+    c.ok-2.ensures.value
+    ∙ tried letters c.try_map.result _ _ c.try_map.ensures.ok c.try_map.ensures.err
+    (λ ys h. (w.0 ∙ sym h.long, λ i l. let s = h.at i 0 0 (omega (arith, l, w.0)) in search rules))
+    (λ e h.
+    let none : digit_of h.0 ≡ None = search rules in
+    (h.1.0, h.1.1.0, ap digit_of (get_or_default letters h.1.0 0 h.0 h.1.1.0 ∙ sym h.1.1.1) ∙ none))
+    ∙ w.1
