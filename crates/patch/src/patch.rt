@@ -15,6 +15,7 @@ use inserter::interface::Inserter;
 #[derive(Drop)]
 pub struct Patch<'t, I> {
     below: I,
+    // lent: the check does not cover a call on a pile in which a table stands by value beside a make that is lent its memory
     table: &'t Table,
 }
 
