@@ -24,7 +24,7 @@ impl<T: Copy, const N: usize> Model for Ring<T, N> {
     ghost invariant = { λ r. (r.before ≤ N) × (r.len ≤ N) };
 }
 
-// The slot of the item that so many others go before.
+// The slot of the item that so many others go before: so many slots further on, and past the last one goes on at the first.
 fn place(slots: usize, before: usize, others: usize) -> usize
     requires start { before ≤ slots }
     requires item { others < slots }
@@ -70,6 +70,7 @@ impl<T: Copy, const N: usize> Ring<T, N> {
     }
 
     // The item that so many others go before, if there is one.
+    #[tactic(auto, using(crate::proofs::Circle::got_window, crate::proofs::Circle::got_beyond))]
     pub(crate) fn get(&self, others: usize) -> Option<T>
         ensures { result ≡ slice_get self.now others }
     {
