@@ -1,37 +1,28 @@
 -- The words of the program's arguments.
-use Rattle.std.specs.Prelude.{ℕ, ◌+◌, ◌*◌, min, Bool, true, false, cond, ◌&&◌, List, [], ◌∷◌, Some, None, Option, ◌==◌}
+use Rattle.std.specs.Prelude.{ℕ, ◌+◌, ◌*◌, min, cond, List, [], ◌∷◌, Some, None, Option, option_and_then, bytes_eq, codes}
 use Rattle.script.specs.Digits.{digit_of}
+use Rattle.options.specs.declared.Make.TheVariants.{Lanes, Pool}
+use Rattle.options.specs.declared.words.Wants.TheVariants.{Places, Patch}
 use Rattle.options.specs.declared.words.Word.{Word}
-use Rattle.options.specs.declared.words.Word.TheVariants.{Lanes, Pool, Places, Patch, Help, Other}
+use Rattle.options.specs.declared.words.Word.TheVariants.{Make, Wants, Help}
 
--- whether two texts are letter for letter the same
-abbrev pub same : List ℕ → List ℕ → Bool
-same [] [] = true
-same [] (y ∷ ys) = false
-same (x ∷ xs) [] = false
-same (x ∷ xs) (y ∷ ys) = x == y && same xs ys
-
--- lanes, pool, --places, --patch and --help
-abbrev pub word_of : List ℕ → Word
+-- a text that is one of the words, letter for letter
+abbrev pub word_of : List ℕ → Option Word
 word_of w =
-    cond (same w (108 ∷ 97 ∷ 110 ∷ 101 ∷ 115 ∷ [])) Lanes
-    (cond (same w (112 ∷ 111 ∷ 111 ∷ 108 ∷ [])) Pool
-    (cond (same w (45 ∷ 45 ∷ 112 ∷ 108 ∷ 97 ∷ 99 ∷ 101 ∷ 115 ∷ [])) Places
-    (cond (same w (45 ∷ 45 ∷ 112 ∷ 97 ∷ 116 ∷ 99 ∷ 104 ∷ [])) Patch
-    (cond (same w (45 ∷ 45 ∷ 104 ∷ 101 ∷ 108 ∷ 112 ∷ [])) Help Other))))
+    cond (bytes_eq w (codes "lanes")) (Some (Make Lanes))
+    (cond (bytes_eq w (codes "pool")) (Some (Make Pool))
+    (cond (bytes_eq w (codes "--places")) (Some (Wants Places))
+    (cond (bytes_eq w (codes "--patch")) (Some (Wants Patch))
+    (cond (bytes_eq w (codes "--help")) (Some Help) None))))
 
 -- one place more than there may be: a larger number is taken for this one
 abbrev pub too_many : ℕ
 too_many = 65536
 
-abbrev pub bound : Option ℕ → (ℕ → Option ℕ) → Option ℕ
-bound None f = None
-bound (Some x) f = f x
-
 -- the number that the digits write behind those that wrote v
 abbrev pub number_on : ℕ → List ℕ → Option ℕ
 number_on v [] = Some v
-number_on v (b ∷ bs) = bound (digit_of b) (λ d. number_on (min (10 * v + d) too_many) bs)
+number_on v (b ∷ bs) = option_and_then (λ d. number_on (min (10 * v + d) too_many) bs) (digit_of b)
 
 -- the number that a word of digits writes
 abbrev pub number_of : List ℕ → Option ℕ

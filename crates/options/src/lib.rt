@@ -39,6 +39,7 @@ pub struct Setup {
     pub patch: Option<[u8; 8]>,
 }
 
+// What the arguments ask for. Help is an answer of its own, and not the lack of an evening, so this is no Option.
 #[derive(Clone, Copy, PartialEq, Eq, Debug)]
 pub enum Options {
     Help,

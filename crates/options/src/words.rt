@@ -1,38 +1,47 @@
 // The words of the program's arguments.
-ghost use Rattle.std.specs.Prelude.{◌≡◌};
+ghost use Rattle.std.specs.Prelude.{◌≡◌, ◌+◌, ◌*◌, ◌≤◌, min};
 ghost use Rattle.options.specs.Words.{too_many, word_of, number_of};
 
+use super::Make;
 use script::digits::digit;
 
+// What a word wants after it.
 #[derive(Clone, Copy)]
-pub enum Word {
-    Lanes,
-    Pool,
+pub enum Wants {
     Places,
     Patch,
-    Help,
-    // no argument
-    Other,
 }
 
-pub(crate) fn word_of(text: &str) -> Word
+// An argument.
+#[derive(Clone, Copy)]
+pub enum Word {
+    Make(Make),
+    Wants(Wants),
+    Help,
+}
+
+pub(crate) fn word_of(text: &str) -> Option<Word>
     ensures { result ≡ word_of text.now }
 {
     match text {
-        "lanes" => Word::Lanes,
-        "pool" => Word::Pool,
-        "--places" => Word::Places,
-        "--patch" => Word::Patch,
-        "--help" => Word::Help,
-        _ => Word::Other,
+        "lanes" => Some(Word::Make(Make::Lanes)),
+        "pool" => Some(Word::Make(Make::Pool)),
+        "--places" => Some(Word::Wants(Wants::Places)),
+        "--patch" => Some(Word::Wants(Wants::Patch)),
+        "--help" => Some(Word::Help),
+        _ => None,
     }
 }
 
 // One place more than there may be: a larger number is refused as this one is, and asks for less memory.
-fn too_many() -> u32
-    ensures { result ≡ too_many }
+const TOO_MANY: u32 = 65_536;
+
+// The number that one digit more writes, or too many.
+fn one_digit_more(value: u32, digit: u8) -> u32
+    requires { value ≤ too_many }
+    ensures { result ≡ min (10 * value + digit) too_many }
 {
-    65_536
+    (10 * value + u32::from(digit)).min(TOO_MANY)
 }
 
 // The number that a word of digits writes, or too many.
@@ -42,10 +51,9 @@ pub(crate) fn number_of(text: &[u8]) -> Option<u32>
     if text.is_empty() {
         return None;
     }
-    let mut value = 0u32;
-    for i in 0..text.len() {
-        let next = 10 * value + u32::from(digit(text[i])?);
-        value = next.min(too_many());
+    let mut value = 0;
+    for &letter in text {
+        value = one_digit_more(value, digit(letter)?);
     }
     Some(value)
 }

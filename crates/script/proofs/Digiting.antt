@@ -1,13 +1,9 @@
 -- A word's digits, read one after the other.
-use Rattle.std.proofs.Common.{◌≡◌, ℕ, zero, suc, ◌<◌, eqb, List, [], ◌∷◌, length, get_or, Some, None, Option, Ok, Err, Result, sym, refl, ap, ◌∙◌, arith}
+use Rattle.std.proofs.Common.{◌≡◌, ℕ, zero, suc, ◌<◌, eqb, List, [], ◌∷◌, length, get_or, Some, None, Ok, Err, Result, sym, refl, ap, ◌∙◌, arith}
 use Rattle.std.specs.Result.{IfOk, IfErr, MatchResult, result_ok}
 use Rattle.std.specs.Array.{IsWholeChunk}
 use Rattle.std.proofs.lemmas.Bool.{cond-true, eq-eqb}
-use Rattle.script.specs.Digits.{digit_of, before, digits_of, eight_digits}
-
-nothing_before : (x : Option ℕ) → before x None ≡ None
-nothing_before None = refl
-nothing_before (Some x) = refl
+use Rattle.script.specs.Digits.{digit_of, digits_of, eight_digits}
 
 -- a letter of the word is no digit
 abbrev pub Spoilt : List ℕ → Type 0
@@ -15,8 +11,8 @@ Spoilt word = (i : ℕ) × (i < length word) × (digit_of (get_or word i 0) ≡ 
 
 none_at : (word : List ℕ) (i : ℕ) → i < length word → digit_of (get_or word i 0) ≡ None → digits_of word ≡ None
 none_at [] i h e = absurd (omega arith)
-none_at (b ∷ bs) zero h e = ap (λ x. before x (digits_of bs)) e
-none_at (b ∷ bs) (suc i) h e = ap (before (digit_of b)) (none_at bs i (omega arith) e) ∙ nothing_before (digit_of b)
+none_at (b ∷ bs) zero h e = grind arith
+none_at (b ∷ bs) (suc i) h e = grind (arith, none_at bs i (omega arith) e)
 
 -- the letters of the word have these values
 abbrev pub Read : List ℕ → List ℕ → Type 0
@@ -26,7 +22,7 @@ all_read : (word values : List ℕ) → length word ≡ length values → Read w
 all_read [] [] n r = refl
 all_read [] (v ∷ vs) n r = absurd (omega arith)
 all_read (b ∷ bs) [] n r = absurd (omega arith)
-all_read (b ∷ bs) (v ∷ vs) n r = ap (λ x. before x (digits_of bs)) (r 0 (omega arith)) ∙ ap (before (Some v)) (all_read bs vs (omega arith) (λ j l. r (suc j) (omega arith)))
+all_read (b ∷ bs) (v ∷ vs) n r = grind (arith, r 0 (omega arith), all_read bs vs (omega arith) (λ j l. r (suc j) (omega arith)))
 
 -- what a try at each letter of a word gives
 pub tried : (word : List ℕ) (r : Result (List ℕ) (Unit {0})) (P : List ℕ → Type 0) (Q : Unit {0} → Type 0) → IfOk r P → IfErr r Q → ((values : List ℕ) → P values → (length word ≡ length values) × Read word values) → ((e : Unit {0}) → Q e → Spoilt word) → result_ok r ≡ digits_of word
