@@ -1,22 +1,17 @@
 -- The lanes: each lies apart from the others, and a put writes on one of them.
-use Rattle.std.proofs.Common.{◌≡◌, ℕ, ◌+◌, ◌-◌, ◌*◌, ◌/◌, ◌<◌, ◌≤◌, min, cond, ltb, leb, ◌⊎◌, List, length, get_or, take, drop, set, Some, None, sym, refl, ap, ◌∙◌, subst, inl, inr, mul-le-mul_right, add-mul, one-mul, arith, length-drop, length-take}
+use Rattle.std.proofs.Common.{◌≡◌, ℕ, ◌+◌, ◌-◌, ◌*◌, ◌/◌, ◌<◌, ◌≤◌, min, cond, ltb, leb, ◌⊎◌, List, length, get_or, take, drop, set, sym, refl, ap, ◌∙◌, subst, inl, inr, mul-le-mul_right, add-mul, one-mul, arith, length-drop, length-take}
 use native.Mathlib.Nat.{mul-div-le}
-use Rattle.std.proofs.lemmas.Bool.{cond-true, cond-false, le-leb, le-ltb}
+use Rattle.std.proofs.lemmas.Bool.{cases_lt, cond-true, le-leb}
 use Rattle.std.proofs.lemmas.Bool.Decides.{nat_tests}
-use Rattle.std.proofs.lemmas.List.{drop-take, get_or-set_same, get_or-set_other, get_or-take, get_or-drop}
-use Rattle.inserter.specs.Meaning.{at_place}
+use Rattle.std.proofs.lemmas.List.{drop-take, get_or-set_same, get_or-set_other}
 use Rattle.inserter.specs.Rules.{Places}
 use Rattle.handshake.specs.Storage.{Grown}
 use Rattle.handshake.specs.Spread.{written, spread_out}
 use Rattle.lanes.specs.Lanes.{lane_limit, stretch, used, lane, room, next_place, laned}
-use Rattle.handshake.proofs.Growing.{none_put}
-use Rattle.handshake.proofs.Spreading.{written_none, length_written, before, after, joined}
+use Rattle.handshake.proofs.Spreading.{length_written, before, after, joined}
 
 sides : (k c : ℕ) → (k ≡ c → ⊥) → (k < c) ⊎ (c < k)
 sides k c ne = grind arith
-
-kind : (k : ℕ) → (k < 8) ⊎ (8 ≤ k)
-kind k = grind arith
 
 -- a lower lane ends where a higher one begins, or earlier
 rows : (k c s : ℕ) → k < c → k * s + s ≤ c * s
@@ -31,26 +26,10 @@ whole xs = omega (arith, mul-div-le (length xs) 8)
 
 module _ (xs lens : List ℕ) (k : ℕ) where
   pub lane_length : used (stretch xs) lens k ≡ length (lane xs lens k)
-  lane_length = elim (kind k) [
+  lane_length = elim (cases_lt k 8) [
     | inl l ↦ let w = whole xs in let m = used_most (stretch xs) lens k in let r = rows k 8 (stretch xs) l in simp (length-take, length-drop) (omega arith)
     | inr h ↦ let z : used (stretch xs) lens k ≡ 0 = grind (arith, nat_tests) in rw (length-take, z) (omega arith)
   ]
-
-  module _ (i : ℕ) where
-    pub lane_place : i < used (stretch xs) lens k → k * stretch xs + i < length xs
-    lane_place l = elim (kind k) [
-      | inl h ↦ let w = whole xs in let m = used_most (stretch xs) lens k in omega (arith, rows k 8 (stretch xs) h)
-      | inr h ↦ let z : used (stretch xs) lens k ≡ 0 = grind (arith, nat_tests) in omega arith
-    ]
-
-    lane_at : i < used (stretch xs) lens k → get_or (lane xs lens k) i 0 ≡ get_or xs (k * stretch xs + i) 0
-    lane_at l = get_or-take (used (stretch xs) lens k) (drop (k * stretch xs) xs) i 0 l ∙ get_or-drop (k * stretch xs) xs i 0
-
-    pub lane_some : i < used (stretch xs) lens k → Some (get_or xs (k * stretch xs + i) 0) ≡ at_place (lane xs lens k) i
-    lane_some l = let a = lane_at l in let n = lane_length in grind (arith, nat_tests)
-
-    pub lane_none : used (stretch xs) lens k ≤ i → None ≡ at_place (lane xs lens k) i
-    lane_none l = let n = lane_length in grind (arith, nat_tests)
 
 -- bytes put on lane c, where they have room
 module _ (xs lens : List ℕ) (c n b : ℕ) (eight : length lens ≡ 8) (low : c < 8) (fits : n ≤ room xs lens c) where
@@ -117,14 +96,3 @@ module _ (xs lens : List ℕ) (c n b : ℕ) (eight : length lens ≡ 8) (low : c
 
     pub memory : ys ≡ laned xs (length (lane xs lens c)) c n b
     memory = there ∙ ap (λ i. written xs (c * stretch xs + i) n b) (lane_length xs lens c)
-
--- a channel above 7 has no places, so nothing is put there
-module _ (xs lens : List ℕ) (c n b : ℕ) (high : 8 ≤ c) where
-  no_room : min n (room xs lens c) ≡ 0
-  no_room = let z : room xs lens c ≡ 0 = cond-false (ltb c 8) _ 0 (le-ltb c 8 high) in omega arith
-
-  pub nothing_grown : Grown c (min n (room xs lens c)) b (lane xs lens) (room xs lens) (lane xs lens) (room xs lens)
-  nothing_grown = none_put c (min n (room xs lens c)) b (lane xs lens) (room xs lens) no_room
-
-  pub nothing_written : xs ≡ laned xs (length (lane xs lens c)) c (min n (room xs lens c)) b
-  nothing_written = written_none xs (c * stretch xs + length (lane xs lens c)) b ∙ ap (λ i. laned xs (length (lane xs lens c)) c i b) (sym no_room)

@@ -35,6 +35,18 @@ impl LaneBytes<'_> {
         }
     }
 
+    // What a lane holds.
+    fn lane(&self, channel: u8) -> &[u8]
+        ensures { result.now ≡ lane self.now.bytes.now self.now.lens channel }
+    {
+        if channel < 8 {
+            let start = channel as usize * self.stretch() as usize;
+            &self.bytes[start..self.next_place(channel)]
+        } else {
+            &[]
+        }
+    }
+
     // The place of a lane that comes next.
     fn next_place(&self, channel: u8) -> usize
         ensures { result ≡ next_place self.now.bytes.now self.now.lens channel }
@@ -43,6 +55,7 @@ impl LaneBytes<'_> {
     }
 
     // The byte n times more on a lane that has the places.
+    #[tactic(auto, using(crate::proofs::Laning::memory))]
     fn append(&mut self, channel: u8, n: u32, byte: u8)
         requires { (channel < 8) × (n ≤ room self.old.bytes.now self.old.lens channel) }
         ensures grown { Grown channel n byte (lane self.old.bytes.now self.old.lens) (room self.old.bytes.now self.old.lens) (lane self.new.bytes.now self.new.lens) (room self.new.bytes.now self.new.lens) }
@@ -77,15 +90,11 @@ impl Storage for LaneBytes<'_> {
     }
 
     fn length_on(&self, channel: u8) -> u32 {
-        self.used(channel)
+        self.lane(channel).len() as u32
     }
 
     fn byte_on(&self, channel: u8, place: u32) -> Option<u8> {
-        if place < self.used(channel) {
-            Some(self.bytes[channel as usize * self.stretch() as usize + place as usize])
-        } else {
-            None
-        }
+        self.lane(channel).get(place as usize).copied()
     }
 
     fn free_on(&self, channel: u8) -> u32 {
