@@ -10,13 +10,12 @@ mod by_channel;
 pub mod record;
 mod records;
 
-pub use records::PoolRecords;
-
 use cell::cells::Cell;
 use handshake::limits::may_offer;
 use handshake::shaken::Handshake;
 use record::Record;
 use records::POOL_LIMIT;
+pub use records::PoolRecords;
 use refusal::Refusal;
 
 // A pool is the handshake over such records: what it does is said there, once for every make.
@@ -26,8 +25,7 @@ pub type Pool<'a, 'c> = Handshake<'c, PoolRecords<'a>>;
 pub fn may_use(records: &[Record], offers: &[Cell]) -> Result<(), Refusal>
     ensures { result ≡ pool_answer (length records.now) (length offers.now) }
 {
-    let places = records.len();
-    if places >= 1 && places <= POOL_LIMIT && may_offer(offers) {
+    if (1..=POOL_LIMIT).contains(&records.len()) && may_offer(offers) {
         Ok(())
     } else {
         Err(Refusal::Memory)
