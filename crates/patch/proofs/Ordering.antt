@@ -1,9 +1,8 @@
 -- A table's entries are the eight channels in some order, so that it can be read both ways.
-use Rattle.std.proofs.Common.{◌≡◌, ℕ, ◌<◌, ◌≤◌, false, ltb, List, get_or, length, sym, ap, ◌∙◌, inl, inr, arith}
-use Rattle.std.proofs.lemmas.Bool.{cases_lt}
+use Rattle.std.proofs.Common.{◌≡◌, ℕ, ◌<◌, false, ltb, sym, ap, ◌∙◌, arith}
 use Rattle.std.proofs.lemmas.Bool.Decides.{nat_tests}
 use Rattle.patch.specs.declared.table.Table.{Table}
-use Rattle.patch.specs.Tables.{any_high, any_alike, entry_of, place_of, channel_of}
+use Rattle.patch.specs.Tables.{any_high, any_alike, entry_of, channel_of}
 use Rattle.patch.proofs.Entries.{both_pass, below, own_place, placed}
 
 module _ (t : Table) where

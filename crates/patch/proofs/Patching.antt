@@ -1,6 +1,5 @@
 -- A look at the lower inserter is, seen through a table, a look by the same rules.
-use Rattle.std.proofs.Common.{◌≡◌, ℕ, ◌+◌, ◌-◌, false, cond, ◌&&◌, ◌||◌, eqb, ltb, leb, List, [], ◌++◌, length, replicate, None, sym, refl, ap, ◌∙◌, subst, inl, inr, arith}
-use Rattle.std.proofs.lemmas.Bool.{cases_lt}
+use Rattle.std.proofs.Common.{◌≡◌, ℕ, ◌+◌, cond, eqb, List, ◌++◌, None, sym, refl, ap, ◌∙◌, subst, arith}
 use Rattle.std.proofs.lemmas.Bool.Decides.{nat_tests}
 use Rattle.cell.specs.declared.cells.Cell.{Cell}
 use Rattle.cell.specs.declared.cells.Tag.{Tag}
@@ -15,7 +14,7 @@ use Rattle.cell.specs.Reading.{repeats, moved, moved_by, gained, gained_by}
 use Rattle.inserter.specs.declared.front.Rule.{Rule}
 use Rattle.inserter.specs.declared.front.Rule.TheVariants.{TurnForward, TurnReverse, Acknowledge, Take, Show, Release, Withdraw, Rest}
 use Rattle.inserter.specs.Meaning.{Meaning, New}
-use Rattle.inserter.specs.Rules.{fits_as, rule_of, carried, shown_cell, takes, adds, adds_many, Places, Looked}
+use Rattle.inserter.specs.Rules.{fits_as, rule_of, carried, shown_cell, adds, adds_many, Places, Looked}
 use Rattle.patch.specs.declared.table.Table.{Table}
 use Rattle.patch.specs.Tables.{entry_of, channel_of}
 use Rattle.patch.specs.Patched.{told, told_by, seen_from, patched}
