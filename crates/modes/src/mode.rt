@@ -145,7 +145,8 @@ impl Mode {
         matches!(self, Mode::Ecp | Mode::Test)
     }
 
-    // Whether cells stored now are forward cells, on their way to the far end.
+    // Whether cells stored now are forward cells, on their way to the far end. Mode and direction are two arguments, here and
+    // below, since two registers hold them: neither is written with the other.
     pub fn forwards(self, direction: Direction) -> bool
         ensures { result ≡ forwards self direction }
     {
@@ -159,7 +160,8 @@ impl Mode {
         self.forwards(direction)
     }
 
-    // Whether cells come back from the far end into the queue.
+    // Whether cells come back from the far end into the queue. This and `forwards` are a comparison each: a function for both
+    // would need the direction wanted beside the direction.
     pub fn receives(self, direction: Direction) -> bool
         ensures { result ≡ receives self direction }
     {

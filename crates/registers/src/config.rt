@@ -1,4 +1,5 @@
-// The two fields of CnfgB, each by a constant table of eight.
+// The two fields of CnfgB, each by a constant table of eight: a row for each field that can be written, as the chip has them, also where
+// rows are alike.
 ghost use Rattle.std.specs.Prelude.{◌≡◌, ◌%◌};
 ghost use Rattle.registers.specs.Config.{irq_reads, irq_line, dma_reads, dma_channel};
 
