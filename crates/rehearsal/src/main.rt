@@ -6,10 +6,8 @@ mod three;
 
 use anyhow::anyhow;
 use cell::cells::{Cell, Tag};
-use lanes::Lanes;
 use patch::patch::Patch;
 use patch::table::Table;
-use pool::Pool;
 use pool::record::Record;
 use std::io::Read;
 use three::play_three;
@@ -20,167 +18,47 @@ const OUTER: [u8; 8] = [3, 0, 7, 1, 6, 2, 5, 4];
 const INNER: [u8; 8] = [5, 2, 0, 4, 1, 7, 3, 6];
 
 // what each inserter offers
-const OFFERS: [Cell; 40] = [
-    Cell {
-        byte: 0x41,
-        tag: Tag::Data,
-    },
-    Cell {
-        byte: 0x03,
-        tag: Tag::Command,
-    },
-    Cell {
-        byte: 0x85,
-        tag: Tag::Command,
-    },
-    Cell {
-        byte: 0x7f,
-        tag: Tag::Data,
-    },
-    Cell {
-        byte: 0x79,
-        tag: Tag::Command,
-    },
-    Cell {
-        byte: 0x42,
-        tag: Tag::Data,
-    },
-    Cell {
-        byte: 0xf2,
-        tag: Tag::Command,
-    },
-    Cell {
-        byte: 0x21,
-        tag: Tag::Command,
-    },
-    Cell {
-        byte: 0xf0,
-        tag: Tag::Data,
-    },
-    Cell {
-        byte: 0x77,
-        tag: Tag::Data,
-    },
-    Cell {
-        byte: 0xf0,
-        tag: Tag::Command,
-    },
-    Cell {
-        byte: 0xf3,
-        tag: Tag::Data,
-    },
-    Cell {
-        byte: 0x4d,
-        tag: Tag::Data,
-    },
-    Cell {
-        byte: 0x4d,
-        tag: Tag::Command,
-    },
-    Cell {
-        byte: 0xc7,
-        tag: Tag::Command,
-    },
-    Cell {
-        byte: 0x20,
-        tag: Tag::Data,
-    },
-    Cell {
-        byte: 0x15,
-        tag: Tag::Data,
-    },
-    Cell {
-        byte: 0x0f,
-        tag: Tag::Command,
-    },
-    Cell {
-        byte: 0x89,
-        tag: Tag::Data,
-    },
-    Cell {
-        byte: 0xc6,
-        tag: Tag::Command,
-    },
-    Cell {
-        byte: 0xda,
-        tag: Tag::Data,
-    },
-    Cell {
-        byte: 0xe3,
-        tag: Tag::Command,
-    },
-    Cell {
-        byte: 0x44,
-        tag: Tag::Command,
-    },
-    Cell {
-        byte: 0x31,
-        tag: Tag::Data,
-    },
-    Cell {
-        byte: 0xfd,
-        tag: Tag::Data,
-    },
-    Cell {
-        byte: 0xdf,
-        tag: Tag::Command,
-    },
-    Cell {
-        byte: 0x9a,
-        tag: Tag::Data,
-    },
-    Cell {
-        byte: 0xc5,
-        tag: Tag::Command,
-    },
-    Cell {
-        byte: 0xd0,
-        tag: Tag::Command,
-    },
-    Cell {
-        byte: 0xac,
-        tag: Tag::Command,
-    },
-    Cell {
-        byte: 0x0e,
-        tag: Tag::Command,
-    },
-    Cell {
-        byte: 0x53,
-        tag: Tag::Command,
-    },
-    Cell {
-        byte: 0xa7,
-        tag: Tag::Command,
-    },
-    Cell {
-        byte: 0x35,
-        tag: Tag::Command,
-    },
-    Cell {
-        byte: 0x6c,
-        tag: Tag::Command,
-    },
-    Cell {
-        byte: 0x88,
-        tag: Tag::Data,
-    },
-    Cell {
-        byte: 0x20,
-        tag: Tag::Data,
-    },
-    Cell {
-        byte: 0xf7,
-        tag: Tag::Data,
-    },
-    Cell {
-        byte: 0x22,
-        tag: Tag::Data,
-    },
-    Cell {
-        byte: 0x4d,
-        tag: Tag::Data,
-    },
+const OFFERS: [(u8, Tag); 40] = [
+    (0x41, Tag::Data),
+    (0x03, Tag::Command),
+    (0x85, Tag::Command),
+    (0x7f, Tag::Data),
+    (0x79, Tag::Command),
+    (0x42, Tag::Data),
+    (0xf2, Tag::Command),
+    (0x21, Tag::Command),
+    (0xf0, Tag::Data),
+    (0x77, Tag::Data),
+    (0xf0, Tag::Command),
+    (0xf3, Tag::Data),
+    (0x4d, Tag::Data),
+    (0x4d, Tag::Command),
+    (0xc7, Tag::Command),
+    (0x20, Tag::Data),
+    (0x15, Tag::Data),
+    (0x0f, Tag::Command),
+    (0x89, Tag::Data),
+    (0xc6, Tag::Command),
+    (0xda, Tag::Data),
+    (0xe3, Tag::Command),
+    (0x44, Tag::Command),
+    (0x31, Tag::Data),
+    (0xfd, Tag::Data),
+    (0xdf, Tag::Command),
+    (0x9a, Tag::Data),
+    (0xc5, Tag::Command),
+    (0xd0, Tag::Command),
+    (0xac, Tag::Command),
+    (0x0e, Tag::Command),
+    (0x53, Tag::Command),
+    (0xa7, Tag::Command),
+    (0x35, Tag::Command),
+    (0x6c, Tag::Command),
+    (0x88, Tag::Data),
+    (0x20, Tag::Data),
+    (0xf7, Tag::Data),
+    (0x22, Tag::Data),
+    (0x4d, Tag::Data),
 ];
 
 fn main(rt: HostRuntime) -> anyhow::Result<()> {
@@ -188,16 +66,18 @@ fn main(rt: HostRuntime) -> anyhow::Result<()> {
 }
 
 fn run(rt: &HostRuntime) -> anyhow::Result<()> {
-    let Ok(outer) = Table::new(OUTER) else {
-        return Err(anyhow!("the outer table was refused"));
-    };
-    let Ok(inner) = Table::new(INNER) else {
-        return Err(anyhow!("the inner table was refused"));
-    };
-    rehearse(rt, &outer, &inner)
+    let outer = Table::try_from(OUTER)?;
+    let inner = Table::try_from(INNER)?;
+    let offers = OFFERS.map(|(byte, tag)| Cell { byte, tag });
+    rehearse(rt, &offers, &outer, &inner)
 }
 
-fn rehearse(rt: &HostRuntime, outer: &Table, inner: &Table) -> anyhow::Result<()> {
+fn rehearse(
+    rt: &HostRuntime,
+    offers: &[Cell; 40],
+    outer: &Table,
+    inner: &Table,
+) -> anyhow::Result<()> {
     let mut table = Vec::new(rt.alloc());
     let mut input = rt.stdin();
     let _ = input.read_to_end(&mut table)?;
@@ -213,13 +93,13 @@ fn rehearse(rt: &HostRuntime, outer: &Table, inner: &Table) -> anyhow::Result<()
         byte: 5,
     }; 300];
     let mut lower = [6u8; 400];
-    let mut a = Lanes::new(&mut small, &OFFERS);
-    let mut b = Lanes::new(&mut middle, &OFFERS);
-    let mut c = Lanes::new(&mut large, &OFFERS);
+    let mut a = lanes::over(&mut small, offers);
+    let mut b = lanes::over(&mut middle, offers);
+    let mut c = lanes::over(&mut large, offers);
     let rest = play_three(rt, &mut a, &mut b, &mut c, b'a', &table)?;
-    let mut d = Pool::new(&mut records, &OFFERS);
-    let mut e = Patch::new(Patch::new(Pool::new(&mut deep, &OFFERS), inner), outer);
-    let mut f = Patch::new(Patch::new(Lanes::new(&mut lower, &OFFERS), inner), outer);
+    let mut d = pool::over(&mut records, offers);
+    let mut e = Patch::new(Patch::new(pool::over(&mut deep, offers), inner), outer);
+    let mut f = Patch::new(Patch::new(lanes::over(&mut lower, offers), inner), outer);
     let rest = play_three(rt, &mut d, &mut e, &mut f, b'd', rest)?;
     if !rest.is_empty() {
         return Err(anyhow!("the table has a line that is none"));

@@ -1,26 +1,27 @@
 // One line of the table. After the letter of the lanes and a blank it is a look, as `LHH 41` (HostClk, HostAck, nReverseRequest, byte in hex), or `drop`, or `ask`.
-use cell::lines::{HostLines, PeriphLines};
+use cell::lines::{HostLines, PeriphLines, Shown};
 use inserter::interface::Inserter;
 use listing::{held, hex};
-use std::alloc::{AllocError, Global};
+use std::fmt;
 
-fn level(high: bool) -> char {
-    if high { 'H' } else { 'L' }
-}
+// The lines of an answer in print: PeriphClk, PeriphAck, nAckReverse, nPeriphRequest and Xflag, each high or low.
+#[derive(Clone, Copy)]
+struct Levels(PeriphLines);
 
-// PeriphClk, PeriphAck, nAckReverse, nPeriphRequest and Xflag.
-fn shown(heap: Global, lines: PeriphLines) -> Result<String, AllocError> {
-    let mut text = String::new(heap);
-    for high in [
-        lines.clk,
-        lines.ack,
-        lines.nackreverse,
-        lines.nrequest,
-        lines.xflag,
-    ] {
-        text.push(level(high))?;
+impl fmt::Display for Levels {
+    fn fmt<W: fmt::Write>(&self, f: &mut fmt::Formatter<W>) -> fmt::Result {
+        let lines = self.0;
+        for high in [
+            lines.clk,
+            lines.ack,
+            lines.nackreverse,
+            lines.nrequest,
+            lines.xflag,
+        ] {
+            write!(f, "{}", if high { 'H' } else { 'L' })?;
+        }
+        Ok(())
     }
-    Ok(text)
 }
 
 fn digit(letter: u8) -> u8 {
@@ -36,23 +37,20 @@ pub(crate) fn answer<I: Inserter>(
     inserter: &mut I,
     line: &[u8],
 ) -> anyhow::Result<()> {
-    let heap = rt.alloc();
     match line {
         [_, b' ', b'd', b'r', b'o', b'p'] => {
-            let text = shown(heap, inserter.drop_cable())?;
-            println!(rt; "{text}")?;
+            println!(rt; "{}", Levels(inserter.drop_cable()))?;
         }
         [_, b' ', b'a', b's', b'k'] => ask(rt, inserter)?,
         [_, b' ', clk, ack, nreverse, b' ', high, low] => {
-            let host = HostLines {
+            let lines = HostLines {
                 clk: *clk == b'H',
                 ack: *ack == b'H',
                 nreverse: *nreverse == b'H',
             };
-            let got = inserter.look(host, (digit(*high) & 15) * 16 + (digit(*low) & 15));
-            let text = shown(heap, got.lines)?;
-            let byte = got.byte;
-            println!(rt; "{text} {byte:02X}")?;
+            let byte = (digit(*high) & 15) * 16 + (digit(*low) & 15);
+            let got = inserter.look(Shown { lines, byte });
+            println!(rt; "{} {:02X}", Levels(got.lines), got.byte)?;
         }
         _ => println!(rt; "?")?,
     }

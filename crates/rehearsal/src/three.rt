@@ -4,6 +4,7 @@ use inserter::interface::Inserter;
 use script::lines::cut_line;
 
 // Plays the lines of three letters, from `first` on, up to the first line of another letter, and gives the rest back.
+// The three may be of three makes, and the interface has a constant, so no `dyn` can stand for each: an arm is what is left.
 pub(crate) fn play_three<'t, A: Inserter, B: Inserter, C: Inserter>(
     rt: &HostRuntime,
     a: &mut A,
@@ -15,7 +16,7 @@ pub(crate) fn play_three<'t, A: Inserter, B: Inserter, C: Inserter>(
     let mut rest = table;
     while !rest.is_empty() {
         let (line, later) = cut_line(rest);
-        match letter(line, first) {
+        match line.first().and_then(|letter| letter.checked_sub(first)) {
             Some(0) => answer(rt, a, line)?,
             Some(1) => answer(rt, b, line)?,
             Some(2) => answer(rt, c, line)?,
@@ -24,12 +25,4 @@ pub(crate) fn play_three<'t, A: Inserter, B: Inserter, C: Inserter>(
         rest = later;
     }
     Ok(rest)
-}
-
-// How far a line's letter is behind the first.
-fn letter(line: &[u8], first: u8) -> Option<u8> {
-    match line.first() {
-        Some(letter) if *letter >= first => Some(*letter - first),
-        _ => None,
-    }
 }
