@@ -1,7 +1,7 @@
 // Eight equal stretches of one lent slice, a lane for each channel.
-ghost use Rattle.std.specs.Prelude.{◌≡◌, ℕ, ◌<◌, ◌≤◌, List, length};
+ghost use Rattle.std.specs.Prelude.{◌≡◌, ℕ, ◌/◌, ◌<◌, ◌≤◌, List, length, slice_index};
 ghost use Rattle.handshake.specs.Storage.{Grown};
-ghost use Rattle.lanes.specs.Lanes.{stretch, used, lane, room, next_place, laned};
+ghost use Rattle.lanes.specs.Lanes.{lane_limit, stretch, used, lane, room, next_place, laned};
 
 use handshake::spread::spread;
 use handshake::storage::Storage;
@@ -14,6 +14,8 @@ pub struct LaneBytes<'a> {
     pub(crate) bytes: &'a mut [u8],
     // How many places of each lane are in use. They stand beside the bytes, since all memory is lent and there is no heap.
     pub(crate) lens: [u32; 8],
+    ghost short: { length bytes.now / 8 ≤ lane_limit },
+    ghost within: { (k : ℕ) → k < 8 → slice_index lens k ≤ length bytes.now / 8 },
 }
 
 impl LaneBytes<'_> {
@@ -21,18 +23,14 @@ impl LaneBytes<'_> {
     fn stretch(&self) -> u32
         ensures { result ≡ stretch self.now.bytes.now }
     {
-        (self.bytes.len() / 8).min(LANE_LIMIT as usize) as u32
+        (self.bytes.len() / 8) as u32
     }
 
     // How many places of a lane are in use.
     fn used(&self, channel: u8) -> u32
         ensures { result ≡ used (stretch self.now.bytes.now) self.now.lens channel }
     {
-        if channel < 8 {
-            self.lens[channel as usize].min(self.stretch())
-        } else {
-            0
-        }
+        self.lens.get(usize::from(channel)).copied().unwrap_or(0)
     }
 
     // What a lane holds.
