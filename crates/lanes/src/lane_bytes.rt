@@ -1,8 +1,6 @@
 // Eight equal stretches of one lent slice, a lane for each channel.
-ghost use Rattle.std.specs.Prelude.{◌≡◌, ℕ, ◌<◌, ◌≤◌, List, length};
-ghost use Rattle.handshake.specs.Storage.{Grown};
-ghost use Rattle.lanes.specs.Lanes.{stretch, used, next_place, laned};
-ghost use Rattle.lanes.specs.Kept.{held_by, free_in};
+ghost use Rattle.std.specs.Prelude.{ℕ, ◌/◌, ◌<◌, ◌≤◌, length, slice_index};
+ghost use Rattle.lanes.specs.Lanes.{lane_limit};
 
 use handshake::spread::spread;
 use handshake::storage::Storage;
@@ -15,25 +13,28 @@ pub struct LaneBytes<'a> {
     pub(crate) bytes: &'a mut [u8],
     // How many places of each lane are in use. They stand beside the bytes, since all memory is lent and there is no heap.
     pub(crate) lens: [u32; 8],
+    ghost short: { length bytes.now / 8 ≤ lane_limit },
+    ghost within: { (k : ℕ) → k < 8 → slice_index lens k ≤ length bytes.now / 8 },
 }
 
 impl LaneBytes<'_> {
+    ghost use Rattle.std.specs.Prelude.{◌≡◌};
+    ghost use Rattle.handshake.specs.Storage.{Grown};
+    ghost use Rattle.lanes.specs.Lanes.{stretch, used, next_place, laned};
+    ghost use Rattle.lanes.specs.Kept.{held_by, free_in};
+
     // How many places each lane has.
     fn stretch(&self) -> u32
         ensures { result ≡ stretch self.now.bytes.now }
     {
-        (self.bytes.len() / 8).min(LANE_LIMIT) as u32
+        (self.bytes.len() / 8) as u32
     }
 
     // How many places of a lane are in use.
     fn used(&self, channel: u8) -> u32
         ensures { result ≡ used (stretch self.now.bytes.now) self.now.lens channel }
     {
-        if channel < 8 {
-            self.lens[channel as usize].min(self.stretch())
-        } else {
-            0
-        }
+        self.lens.get(usize::from(channel)).copied().unwrap_or(0)
     }
 
     // What a lane holds.
@@ -70,6 +71,10 @@ impl LaneBytes<'_> {
 }
 
 impl Storage for LaneBytes<'_> {
+    ghost use Rattle.std.specs.Prelude.{◌≡◌, List};
+    ghost use Rattle.lanes.specs.Lanes.{laned};
+    ghost use Rattle.lanes.specs.Kept.{held_by, free_in};
+
     const DELAY: u8 = 0;
 
     ghost delay = { 0 };
