@@ -1,6 +1,6 @@
 // A line of the script: a channel, a blank and a caption's text.
 ghost use Rattle.std.specs.Prelude.{◌≡◌, ◌<◌, length, position, Some, None, Ok, Err, MatchOption, MatchResult, ◌==◌};
-ghost use Rattle.script.specs.Lines.{first_line, later_lines, letter_and_text, channel_at, parsed};
+ghost use Rattle.script.specs.Lines.{first_line, later_lines, text_of, letter_and_text, channel_at, parsed};
 
 use super::digits::digit;
 use cell::channel::Channel;
@@ -54,13 +54,22 @@ pub struct Caption<'a> {
     pub text: &'a [u8],
 }
 
+// The text of a line: what stands after its channel and the blank.
+pub fn text_of(line: &[u8]) -> &[u8]
+    ensures { result.now ≡ text_of line.now }
+{
+    match line {
+        [_, _, text @ ..] => text,
+        _ => &[],
+    }
+}
+
 // The letter that a line begins with, and what stands after it and a blank.
 fn letter_and_text(line: &[u8]) -> Option<(u8, &[u8])>
     ensures { MatchOption result (letter_and_text line.now ≡ None) (λ p. letter_and_text line.now ≡ Some (p.0, p.1.now)) }
 {
     match line {
-        [letter] => Some((*letter, &[])),
-        [letter, b' ', text @ ..] => Some((*letter, text)),
+        [letter] | [letter, b' ', ..] => Some((*letter, text_of(line))),
         _ => None,
     }
 }
