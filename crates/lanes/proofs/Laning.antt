@@ -1,7 +1,7 @@
 -- The lanes: each lies apart from the others, and a put writes on one of them.
 use Rattle.std.proofs.Common.{◌≡◌, ℕ, ◌+◌, ◌-◌, ◌*◌, ◌/◌, ◌<◌, ◌≤◌, min, cond, ltb, leb, ◌⊎◌, List, length, get_or, take, drop, set, sym, refl, ap, ◌∙◌, subst, inl, inr, mul-le-mul_right, add-mul, one-mul, arith, length-drop, length-take}
 use native.Mathlib.Nat.{mul-div-le}
-use Rattle.std.proofs.lemmas.Bool.{cond-true, le-leb}
+use Rattle.std.proofs.lemmas.Bool.{cases_lt, cond-true, le-leb}
 use Rattle.std.proofs.lemmas.Bool.Decides.{nat_tests}
 use Rattle.std.proofs.lemmas.List.{drop-take, get_or-set_same, get_or-set_other}
 use Rattle.inserter.specs.Rules.{Places}
@@ -12,9 +12,6 @@ use Rattle.handshake.proofs.Spreading.{length_written, before, after, joined}
 
 sides : (k c : ℕ) → (k ≡ c → ⊥) → (k < c) ⊎ (c < k)
 sides k c ne = grind arith
-
-kind : (k : ℕ) → (k < 8) ⊎ (8 ≤ k)
-kind k = grind arith
 
 -- a lower lane ends where a higher one begins, or earlier
 rows : (k c s : ℕ) → k < c → k * s + s ≤ c * s
@@ -29,7 +26,7 @@ whole xs = omega (arith, mul-div-le (length xs) 8)
 
 module _ (xs lens : List ℕ) (k : ℕ) where
   pub lane_length : used (stretch xs) lens k ≡ length (lane xs lens k)
-  lane_length = elim (kind k) [
+  lane_length = elim (cases_lt k 8) [
     | inl l ↦ let w = whole xs in let m = used_most (stretch xs) lens k in let r = rows k 8 (stretch xs) l in simp (length-take, length-drop) (omega arith)
     | inr h ↦ let z : used (stretch xs) lens k ≡ 0 = grind (arith, nat_tests) in rw (length-take, z) (omega arith)
   ]

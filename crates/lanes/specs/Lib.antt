@@ -1,3 +1,4 @@
 pub mod Lanes
+pub mod Kept
 pub mod LanesMeaning
 pub mod Making

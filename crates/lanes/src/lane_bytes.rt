@@ -1,13 +1,14 @@
 // Eight equal stretches of one lent slice, a lane for each channel.
 ghost use Rattle.std.specs.Prelude.{◌≡◌, ℕ, ◌<◌, ◌≤◌, List, length};
 ghost use Rattle.handshake.specs.Storage.{Grown};
-ghost use Rattle.lanes.specs.Lanes.{stretch, used, lane, room, next_place, laned};
+ghost use Rattle.lanes.specs.Lanes.{stretch, used, next_place, laned};
+ghost use Rattle.lanes.specs.Kept.{held_by, free_in};
 
 use handshake::spread::spread;
 use handshake::storage::Storage;
 
 // The most places that a lane may have.
-pub(crate) const LANE_LIMIT: u32 = 65_535;
+pub(crate) const LANE_LIMIT: usize = 65_535;
 
 #[derive(Drop)]
 pub struct LaneBytes<'a> {
@@ -21,7 +22,7 @@ impl LaneBytes<'_> {
     fn stretch(&self) -> u32
         ensures { result ≡ stretch self.now.bytes.now }
     {
-        (self.bytes.len() / 8).min(LANE_LIMIT as usize) as u32
+        (self.bytes.len() / 8).min(LANE_LIMIT) as u32
     }
 
     // How many places of a lane are in use.
@@ -37,7 +38,7 @@ impl LaneBytes<'_> {
 
     // What a lane holds.
     fn lane(&self, channel: u8) -> &[u8]
-        ensures { result.now ≡ lane self.now.bytes.now self.now.lens channel }
+        ensures { result.now ≡ held_by self.now channel }
     {
         if channel < 8 {
             let start = channel as usize * self.stretch() as usize;
@@ -55,10 +56,11 @@ impl LaneBytes<'_> {
     }
 
     // The byte n times more on a lane that has the places.
+    #[tactic(auto, using(crate::proofs::Laning::memory))]
     fn append(&mut self, channel: u8, n: u32, byte: u8)
-        requires { (channel < 8) × (n ≤ room self.old.bytes.now self.old.lens channel) }
-        ensures grown { Grown channel n byte (lane self.old.bytes.now self.old.lens) (room self.old.bytes.now self.old.lens) (lane self.new.bytes.now self.new.lens) (room self.new.bytes.now self.new.lens) }
-        ensures memory { self.new.bytes.now ≡ laned self.old.bytes.now (length (lane self.old.bytes.now self.old.lens channel)) channel n byte }
+        requires { (channel < 8) × (n ≤ free_in self.old channel) }
+        ensures grown { Grown channel n byte (held_by self.old) (free_in self.old) (held_by self.new) (free_in self.new) }
+        ensures memory { self.new.bytes.now ≡ laned self.old.bytes.now (length (held_by self.old channel)) channel n byte }
     {
         let at = self.next_place(channel);
         let have = self.used(channel);
@@ -72,9 +74,9 @@ impl Storage for LaneBytes<'_> {
 
     ghost delay = { 0 };
 
-    ghost held = { λ s. lane s.bytes.now s.lens };
+    ghost held = { held_by };
 
-    ghost free = { λ s. room s.bytes.now s.lens };
+    ghost free = { free_in };
 
     ghost Memory = { List ℕ };
 

@@ -23,7 +23,7 @@ pub fn may_use(bytes: &[u8], offers: &[Cell]) -> Result<(), Refusal>
     ensures { result ≡ lanes_answer (length bytes.now) (length offers.now) }
 {
     let places = bytes.len() / 8;
-    if bytes.len() % 8 == 0 && places >= 1 && places <= LANE_LIMIT as usize && may_offer(offers) {
+    if bytes.len() % 8 == 0 && (1..=LANE_LIMIT).contains(&places) && may_offer(offers) {
         Ok(())
     } else {
         Err(Refusal::Memory)

@@ -1,5 +1,3 @@
-mod Checking
-mod Placing
-mod Crowding
+mod Entries
 mod Ordering
 mod Patching

@@ -1,6 +1,7 @@
 -- A look at the lower inserter is, seen through a table, a look by the same rules.
 use Rattle.std.proofs.Common.{◌≡◌, ℕ, ◌+◌, ◌-◌, false, cond, ◌&&◌, ◌||◌, eqb, ltb, leb, List, [], ◌++◌, length, replicate, None, sym, refl, ap, ◌∙◌, subst, inl, inr, arith}
-use Rattle.std.proofs.lemmas.Bool.{cases_lt, cases_eq, cond-true, cond-false, lt-ltb, le-ltb, eq-eqb, ne_eqb}
+use Rattle.std.proofs.lemmas.Bool.{cases_lt}
+use Rattle.std.proofs.lemmas.Bool.Decides.{nat_tests}
 use Rattle.cell.specs.declared.cells.Cell.{Cell}
 use Rattle.cell.specs.declared.cells.Tag.{Tag}
 use Rattle.cell.specs.declared.cells.Tag.TheVariants.{Data, Command}
@@ -15,9 +16,10 @@ use Rattle.inserter.specs.declared.front.Rule.{Rule}
 use Rattle.inserter.specs.declared.front.Rule.TheVariants.{TurnForward, TurnReverse, Acknowledge, Take, Show, Release, Withdraw, Rest}
 use Rattle.inserter.specs.Meaning.{Meaning, New}
 use Rattle.inserter.specs.Rules.{fits_as, rule_of, carried, shown_cell, takes, adds, adds_many, Places, Looked}
-use Rattle.patch.specs.Tables.{any_high, any_alike, entry_of, channel_of}
+use Rattle.patch.specs.declared.table.Table.{Table}
+use Rattle.patch.specs.Tables.{entry_of, channel_of}
 use Rattle.patch.specs.Patched.{told, told_by, seen_from, patched}
-use Rattle.patch.proofs.Ordering.{entry_high, entry_below, entry_test, channel_of_entry, entry_of_channel, channel_test, channel_above, other_entry}
+use Rattle.patch.proofs.Ordering.{entry_below, entry_test, channel_of_entry, entry_of_channel, channel_test, channel_above, other_entry}
 
 -- what a cell says below
 kind_below : List ℕ → Kind → Kind
@@ -25,44 +27,25 @@ kind_below es (Byte b) = Byte b
 kind_below es (Count n) = Count n
 kind_below es (Address k) = Address (entry_of es k)
 
--- an address that is told below is the address of its entry
-address_told : (es : List ℕ) (b k : ℕ) → b ≡ 128 + k → kind_at Command (told_by es b (Address k)) ≡ Address (entry_of es k)
-address_told es b k e = elim (cases_lt k 8) [
-  | inl l ↦
-      ap (kind_at Command) (cond-true (ltb k 8) (128 + entry_of es k) b (lt-ltb k 8 l))
-      ∙ cond-false (ltb (128 + entry_of es k) 128) _ _ (le-ltb (128 + entry_of es k) 128 (omega arith))
-      ∙ ap (λ i. Address i) {x = 128 + entry_of es k - 128} {y = entry_of es k} (omega arith)
-  | inr h ↦
-      ap (kind_at Command) (cond-false (ltb k 8) (128 + entry_of es k) b (le-ltb k 8 h))
-      ∙ cond-false (ltb b 128) _ _ (le-ltb b 128 (omega arith))
-      ∙ ap (λ i. Address i) {x = b - 128} {y = k} (omega arith)
-      ∙ sym (ap (λ i. Address i) (entry_high es k h))
-]
-
 kind_told_at : (es : List ℕ) (t : Tag) (b : ℕ) → kind_at t (told_by es b (kind_at t b)) ≡ kind_below es (kind_at t b)
 unfolding kind_below
 kind_told_at es Data b = refl
-kind_told_at es Command b = elim (cases_lt b 128) [
-  | inl l ↦
-      let k : kind_at Command b ≡ Count b = cond-true (ltb b 128) _ _ (lt-ltb b 128 l) in
-      ap (λ q. kind_at Command (told_by es b q)) k ∙ k ∙ sym (ap (kind_below es) k)
-  | inr h ↦
-      let k : kind_at Command b ≡ Address (b - 128) = cond-false (ltb b 128) _ _ (le-ltb b 128 h) in
-      ap (λ q. kind_at Command (told_by es b q)) k ∙ address_told es b (b - 128) (omega arith) ∙ sym (ap (kind_below es) k)
-]
+kind_told_at es Command b = grind (arith, nat_tests)
 
 -- a cell of that byte says below what the cell says above, with its address translated
 kind_told : (es : List ℕ) (c : Cell) → kind_of (record { byte = told es c; tag = c.tag }) ≡ kind_below es (kind_of c)
 kind_told es c = kind_told_at es c.tag c.byte
 
-module _ (es : List ℕ) (eight : length es ≡ 8) (low : any_high es ≡ false) (apart : any_alike es ≡ false) where
+module _ (table : Table) where
+  abbrev es : List ℕ
+  es = table.entries
+
   fits_same : (m : Meaning) (t : Tag) → fits_as t (patched es m) ≡ fits_as t m
   fits_same m Command = refl
   fits_same m Data =
       let c = m.cursor.channel in
       let n = repeats m.cursor.count in
-      ap (λ t. t || leb n (m.free (entry_of es (channel_of es c)))) (channel_above es eight low apart c)
-      ∙ ap (λ k. ltb 7 c || leb n (m.free k)) (entry_of_channel es eight low apart c)
+      cc (channel_above table c, entry_of_channel table c)
 
   pub rule_same : (m : Meaning) (h : HostLines) → rule_of (patched es m) h ≡ rule_of m h
   rule_same m h = let f = fits_same m (tag_at h.ack) in simp f
@@ -71,19 +54,15 @@ module _ (es : List ℕ) (eight : length es ≡ 8) (low : any_high es ≡ false)
   unfolding kind_below
   moved_same r (Byte b) = refl
   moved_same r (Count n) = refl
-  moved_same r (Address k) = λ i. record { channel = channel_of_entry es eight low apart k i; count = None }
+  moved_same r (Address k) = λ i. record { channel = channel_of_entry table k i; count = None }
 
   same_test : (c k : ℕ) → eqb (entry_of es k) c ≡ eqb k (channel_of es c)
-  same_test c k = elim (cases_eq k (channel_of es c)) [
-    | inl e ↦ eq-eqb (entry_of es k) c (ap (entry_of es) e ∙ entry_of_channel es eight low apart c) ∙ sym (eq-eqb k (channel_of es c) e)
-    | inr ne ↦ ne_eqb (entry_of es k) c (other_entry es eight low apart c k ne) ∙ sym (ne_eqb k (channel_of es c) ne)
-  ]
+  same_test c k = let e = entry_of_channel table c in let n = other_entry table c k in grind (arith, nat_tests)
 
   gained_same : (r : Cursor) (q : Kind) (k : ℕ) → gained_by r (kind_below es q) (entry_of es k) ≡ gained_by (seen_from es r) q k
   unfolding kind_below
   gained_same r (Byte b) k =
-      ap (λ t. cond (t && ltb (entry_of es k) 8) (replicate (repeats r.count) b) []) (same_test r.channel k)
-      ∙ ap (λ t. cond (eqb k (channel_of es r.channel) && t) (replicate (repeats r.count) b) []) (entry_test es eight low apart k)
+      cc (same_test r.channel k, entry_test table k)
   gained_same r (Count n) k = refl
   gained_same r (Address a) k = refl
 
@@ -117,15 +96,14 @@ module _ (es : List ℕ) (eight : length es ≡ 8) (low : any_high es ≡ false)
 
   places_same : (c n : ℕ) (free free' : ℕ → ℕ) → Places c n free free' → Places (channel_of es c) n (λ k. free (entry_of es k)) (λ k. free' (entry_of es k))
   places_same c n free free' p = record {
-    here = subst (λ k. free' k + n ≡ free k) (sym (entry_of_channel es eight low apart c)) p.here;
-    no_rise = λ k ne. p.no_rise (entry_of es k) (other_entry es eight low apart c k ne);
-    no_more = λ k ne. p.no_more (entry_of es k) (other_entry es eight low apart c k ne);
+    here = subst (λ k. free' k + n ≡ free k) (sym (entry_of_channel table c)) p.here;
+    no_rise = λ k ne. p.no_rise (entry_of es k) (other_entry table c k ne);
+    no_more = λ k ne. p.no_more (entry_of es k) (other_entry table c k ne);
   }
 
   adds_same : (m : Meaning) (h : HostLines) → adds (patched es m) h ≡ adds m h
   adds_same m h =
-      ap (λ x. takes x && (h.ack && ltb (channel_of es m.cursor.channel) 8)) (rule_same m h)
-      ∙ ap (λ t. takes (rule_of m h) && (h.ack && t)) (channel_test es eight low apart m.cursor.channel)
+      cc (rule_same m h, channel_test table m.cursor.channel)
 
   pub looked : (d : ℕ) (m : Meaning) (h : HostLines) (b : ℕ) (m' : Meaning) (r : Answer) → Looked d m h (told es (shown_cell h b)) m' r → Looked d (patched es m) h b (patched es m') r
   looked d m h b m' r l = record {
@@ -140,7 +118,7 @@ module _ (es : List ℕ) (eight : length es ≡ 8) (low : any_high es ≡ false)
   pub new_same : (d : ℕ) (m : Meaning) → New d m → New d (patched es m)
   new_same d m n = record {
     no_bytes = λ k. n.no_bytes (entry_of es k);
-    a_place = λ k l. n.a_place (entry_of es k) (entry_below es eight low apart k l);
+    a_place = λ k l. n.a_place (entry_of es k) (entry_below table k l);
     at_start = ap (seen_from es) n.at_start;
     at_rest = n.at_rest;
   }

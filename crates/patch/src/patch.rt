@@ -1,14 +1,15 @@
 // The patch over an inserter of any make, another patch too.
 ghost use Rattle.std.specs.Prelude.{◌≡◌, nat_lt};
+ghost use Rattle.cell.specs.Cells.{sent_as};
 ghost use Rattle.inserter.specs.Meaning.{New};
-ghost use Rattle.inserter.specs.Rules.{Looked, Dropped, shown_cell};
+ghost use Rattle.inserter.specs.Rules.{Looked, Dropped};
 ghost use Rattle.patch.specs.Tables.{entry_of};
 ghost use Rattle.patch.specs.Patched.{told, patched};
 ghost use Rattle.patch.specs.PatchMeaning.{entries_of, means};
 
 use super::table::Table;
-use cell::cells::{Cell, Tag};
-use cell::lines::{Answer, HostLines, PeriphLines};
+use cell::cells::Cell;
+use cell::lines::{Answer, PeriphLines, Shown};
 use inserter::interface::Inserter;
 
 #[derive(Drop)]
@@ -33,19 +34,18 @@ impl<'t, I: Inserter> Patch<'t, I> {
         Patch::over(below, table)
     }
 
-    // Shows the lower inserter the lines, and the byte as the table has it told.
-    fn show(&mut self, host: HostLines, byte: u8) -> Answer
-        ensures below { Looked I.delay (I.meaning self.old.below) host (told (entries_of self.old) (shown_cell host byte)) (I.meaning self.new.below) result }
-        ensures table { entries_of self.new ≡ entries_of self.old }
+    // What is shown below: the same lines, and the byte as the table has it told.
+    fn told(&self, shown: Shown) -> Shown
+        ensures { result ≡ record shown { byte = told (entries_of self.now) (sent_as shown) } }
     {
-        let cell = Cell {
-            byte,
-            tag: Tag::from_level(host.ack),
-        };
-        self.below.look(host, self.table.told(cell))
+        Shown {
+            byte: self.table.told(Cell::from(shown)),
+            ..shown
+        }
     }
 
     // The lower one's channel. The eight channels are the eight below.
+    #[tactic(auto, using(crate::proofs::Ordering::entry_test))]
     fn lower(&self, channel: u8) -> u8
         ensures entry { result ≡ entry_of (entries_of self.now) channel }
         ensures eight { nat_lt result 8 ≡ nat_lt channel 8 }
@@ -68,12 +68,13 @@ impl<I: Inserter> Inserter for Patch<'_, I> {
     }
 
     // One look at the lower one, and the table stays.
-    fn look(&mut self, host: HostLines, byte: u8) -> Answer
-        ensures looked { Looked I.delay (means I.meaning self.old) host byte (means I.meaning self.new) result }
-        ensures below { Looked I.delay (I.meaning self.old.below) host (told (entries_of self.old) (shown_cell host byte)) (I.meaning self.new.below) result }
+    fn look(&mut self, shown: Shown) -> Answer
+        ensures looked { Looked I.delay (means I.meaning self.old) shown.lines shown.byte (means I.meaning self.new) result }
+        ensures below { Looked I.delay (I.meaning self.old.below) shown.lines (told (entries_of self.old) (sent_as shown)) (I.meaning self.new.below) result }
         ensures table { entries_of self.new ≡ entries_of self.old }
     {
-        self.show(host, byte)
+        let told = self.told(shown);
+        self.below.look(told)
     }
 
     fn drop_cable(&mut self) -> PeriphLines

@@ -1,6 +1,6 @@
 // The patch table.
-ghost use Rattle.std.specs.Prelude.{◌≡◌, false, length, Ok, Err, MatchResult};
-ghost use Rattle.patch.specs.Tables.{any_high, any_alike, table_answer, entry_of, place_of, channel_of};
+ghost use Rattle.std.specs.Prelude.{◌≡◌, ◌≤◌, length, Ok, Err, MatchResult};
+ghost use Rattle.patch.specs.Tables.{table_answer, entry_of, place_of, channel_of};
 ghost use Rattle.patch.specs.Patched.{told};
 
 use super::checks::{any_alike, any_high};
@@ -11,16 +11,17 @@ use refusal::Refusal;
 #[derive(Clone, Copy)]
 pub struct Table {
     entries: [u8; 8],
-    ghost low: { any_high entries ≡ false },
-    ghost apart: { any_alike entries ≡ false },
+    ghost allowed: { table_answer entries ≡ Ok tt },
     ghost eight: { length entries ≡ 8 },
 }
 
-impl Table {
-    // The table of these entries, or why there is none.
-    pub fn new(entries: [u8; 8]) -> Result<Table, Refusal>
-        ensures { MatchResult result (λ t. (table_answer entries ≡ Ok tt) × (t.entries ≡ entries)) (λ e. table_answer entries ≡ Err e) }
-    {
+// The table of these entries, or why there is none.
+impl TryFrom<[u8; 8]> for Table {
+    type Error = Refusal;
+
+    ghost try_from_gives = { λ entries result. MatchResult result (λ t. (table_answer entries ≡ Ok tt) × (t.entries ≡ entries)) (λ e. table_answer entries ≡ Err e) };
+
+    fn try_from(entries: [u8; 8]) -> Result<Table, Refusal> {
         if any_high(&entries) {
             return Err(Refusal::EntryRange);
         }
@@ -29,23 +30,26 @@ impl Table {
         }
         Ok(Table { entries })
     }
+}
 
+impl Table {
     // The channel that a channel is below.
     pub fn entry(&self, channel: u8) -> u8
         ensures { result ≡ entry_of self.now.entries channel }
     {
         if channel < 8 {
-            self.entries[channel as usize]
+            self.entries[usize::from(channel)]
         } else {
             channel
         }
     }
 
     // The byte that is shown below for a cell: an address below 8 is told as its entry, and all else as it is.
+    #[tactic(auto, using(crate::proofs::Ordering::entry_below))]
     pub fn told(&self, cell: Cell) -> u8
         ensures { result ≡ told self.now.entries cell }
     {
-        match cell.kind() {
+        match Kind::from(cell) {
             Kind::Address(channel) if channel < 8 => 128 + self.entry(channel),
             _ => cell.byte,
         }
@@ -56,21 +60,20 @@ impl Table {
         ensures { result ≡ channel_of self.now.entries entry }
     {
         if entry < 8 {
-            place_of(&self.entries, entry)
+            place_of(&self.entries, entry) as u8
         } else {
             entry
         }
     }
 }
 
-// The place at which an entry stands first, and 8 where it does not stand.
-fn place_of(entries: &[u8; 8], wanted: u8) -> u8
-    ensures { result ≡ place_of entries.now wanted }
+// The place at which an entry stands first, and behind them all where it does not stand.
+fn place_of(entries: &[u8], wanted: u8) -> usize
+    ensures place { result ≡ place_of entries.now wanted }
+    ensures within { result ≤ length entries.now }
 {
-    for place in 0..8u8 {
-        if entries[place as usize] == wanted {
-            return place;
-        }
-    }
-    8
+    entries
+        .iter()
+        .position(|&entry| entry == wanted)
+        .unwrap_or(entries.len())
 }

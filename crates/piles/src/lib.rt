@@ -7,12 +7,10 @@ ghost use Rattle.pool.specs.Making.{pool_answer};
 ghost use Rattle.piles.specs.Settling.{Settled, as_it_is, through};
 
 use cell::cells::Cell;
-use cell::lines::{Answer, HostLines};
+use cell::lines::{Answer, Shown};
 use inserter::interface::look_twice;
-use lanes::Lanes;
 use patch::patch::Patch;
 use patch::table::Table;
-use pool::Pool;
 use pool::record::Record;
 use refusal::Refusal;
 
@@ -20,15 +18,14 @@ use refusal::Refusal;
 pub fn settle_lanes(
     bytes: &mut [u8],
     offers: &[Cell],
-    host: HostLines,
-    byte: u8,
+    shown: Shown,
 ) -> Result<(Answer, Answer), Refusal>
-    ensures settled { MatchResult result (λ a. Settled 0 as_it_is offers.now host byte a.0 a.1) (λ e. lanes_answer (length bytes.old) (length offers.now) ≡ Err e) }
+    ensures settled { MatchResult result (λ a. Settled 0 as_it_is offers.now shown a.0 a.1) (λ e. lanes_answer (length bytes.old) (length offers.now) ≡ Err e) }
     ensures kept { OnErr result (bytes.new ≡ bytes.old) }
 {
-    Lanes::may_use(bytes, offers)?;
-    let mut lanes = Lanes::new(bytes, offers);
-    Ok(look_twice(&mut lanes, host, byte))
+    lanes::may_use(bytes, offers)?;
+    let mut lanes = lanes::over(bytes, offers);
+    Ok(look_twice(&mut lanes, shown))
 }
 
 // Looks twice at a patch over a patch over a new pool.
@@ -36,14 +33,13 @@ pub fn settle_pile(
     records: &mut [Record],
     offers: &[Cell],
     tables: (&Table, &Table),
-    host: HostLines,
-    byte: u8,
+    shown: Shown,
 ) -> Result<(Answer, Answer), Refusal>
-    ensures settled { MatchResult result (λ a. Settled 2 (through tables.entry.0.now.entries tables.entry.1.now.entries) offers.now host byte a.0 a.1) (λ e. pool_answer (length records.old) (length offers.now) ≡ Err e) }
+    ensures settled { MatchResult result (λ a. Settled 2 (through tables.entry.0.now.entries tables.entry.1.now.entries) offers.now shown a.0 a.1) (λ e. pool_answer (length records.old) (length offers.now) ≡ Err e) }
     ensures kept { OnErr result (records.new ≡ records.old) }
 {
-    Pool::may_use(records, offers)?;
+    pool::may_use(records, offers)?;
     let (outer, inner) = tables;
-    let mut pile = Patch::new(Patch::new(Pool::new(records, offers), inner), outer);
-    Ok(look_twice(&mut pile, host, byte))
+    let mut pile = Patch::new(Patch::new(pool::over(records, offers), inner), outer);
+    Ok(look_twice(&mut pile, shown))
 }

@@ -1,15 +1,10 @@
-use Rattle.std.proofs.Common.{leb, sym, refl, ◌∙◌}
-use Rattle.patch.specs.Tables.{any_high}
-use Rattle.patch.proofs.Checking.{found, on, ended}
+use Rattle.std.proofs.Common.{leb, rules, tests, ◌∙◌}
+use Rattle.std.proofs.lemmas.Iterator.{YieldsList-from_slice}
+use Rattle.std.proofs.lemmas.Iterator.Search.{any_from_yields_List}
+use Rattle.patch.proofs.Entries.{any_high-any}
 use Rattle.patch.proofs.checks.any_high.Goals as goal
 
-pub returns-then-too_high : goal.returns-then-too_high
-returns-then-too_high c =
-    sym (c.loop-i.invariant ∙ found (λ x xs. leb 8 x) any_high refl (λ x xs. refl) c.args.entries.now c.loop-i.i c.loop-i-test.true (sym c.if-too_high.ensures))
-
-pub loop-i-preserved : goal.loop-i-preserved
-loop-i-preserved c =
-    c.loop-i.invariant ∙ on (λ x xs. leb 8 x) any_high refl (λ x xs. refl) c.args.entries.now c.loop-i.i c.loop-i-test.true (sym c.if-too_high.ensures)
-
 pub returns : goal.returns
-returns c = sym (c.loop-i.invariant ∙ ended (λ x xs. leb 8 x) any_high refl (λ x xs. refl) c.args.entries.now c.loop-i.i c.loop-i-test.false)
+returns c =
+    let es = c.args.entries.now in
+    any_from_yields_List (leb 8) _ _ _ c.any.ensures.ran (YieldsList-from_slice es cc) (λ x b q k. search (rules, tests)) ∙ any_high-any es

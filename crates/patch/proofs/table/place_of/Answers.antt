@@ -1,14 +1,16 @@
-use Rattle.std.proofs.Common.{sym, ◌∙◌, arith, rules}
-use Rattle.patch.proofs.Placing.{here, past, behind}
+use Rattle.std.proofs.Common.{eqb, not, rules, tests, arith}
+use Rattle.std.proofs.lemmas.Bool.Decides.{nat_tests}
+use Rattle.std.proofs.lemmas.Iterator.{YieldsList-from_slice}
+use Rattle.std.proofs.lemmas.Iterator.Search.{position_from_yields_List}
+use Rattle.std.proofs.lemmas.List.Sums.{prefix_len-le-length}
+use Rattle.patch.proofs.Entries.{place_of-position}
 use Rattle.patch.proofs.table.place_of.Goals as goal
 
-pub returns-then-entries-place : goal.returns-then-entries-place
-returns-then-entries-place c = sym (c.loop-place.invariant ∙ here c.args.entries.now c.args.wanted c.loop-place.place (search rules) c.if-entries-place.true)
-
-pub loop-place-preserved : goal.loop-place-preserved
-loop-place-preserved c = c.loop-place.invariant ∙ past c.args.entries.now c.args.wanted c.loop-place.place (search rules) c.if-entries-place.false
-
-pub returns : goal.returns
-returns c =
-    let b = behind c.args.entries.now c.args.wanted c.loop-place.place (omega (arith, c.told-entries, c.loop-place-test.false)) in
-    omega (arith, c.loop-place.invariant, b, c.loop-place-test.false, c.loop-place.auto.place-end)
+pub returns-clause-place : goal.returns-clause-place
+returns-clause-place c =
+    let es = c.args.entries.now in
+    let w = c.args.wanted in
+    let p = position_from_yields_List (λ x. eqb x w) _ _ c.position.result c.position.ensures.ran (YieldsList-from_slice es cc) (λ x b q k. search (rules, tests)) in
+    let q = place_of-position es w in
+    let n = prefix_len-le-length (λ x. not (eqb x w)) es in
+    grind (arith, nat_tests)
