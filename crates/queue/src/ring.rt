@@ -24,7 +24,8 @@ impl<T: Copy, const N: usize> Model for Ring<T, N> {
     ghost invariant = { λ r. (r.before ≤ N) × (r.len ≤ N) };
 }
 
-// The slot of the item that so many others go before: so many slots further on, and past the last one goes on at the first.
+// The slot of the item that so many others go before: so many slots further on, where the first follows the last. It is
+// found by a comparison, since the sum may be more than a `usize` holds.
 fn place(slots: usize, before: usize, others: usize) -> usize
     requires start { before ≤ slots }
     requires item { others < slots }
