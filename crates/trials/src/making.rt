@@ -1,7 +1,5 @@
 // Which memory lanes and pools are made of, and what a refusal says.
 use cell::cells::{Cell, Tag};
-use lanes::Lanes;
-use pool::Pool;
 use pool::record::Record;
 use refusal::Refusal;
 use std::test::Fail;
@@ -46,7 +44,7 @@ fn memory_and_offers(rt: HostRuntime) -> Result<(), Fail> {
             tag: Tag::Data
         }; offers]?;
         let want = if yes { Ok(()) } else { Err(Refusal::Memory) };
-        assert_eq!(rt; Lanes::may_use(&memory, &cells), want);
+        assert_eq!(rt; lanes::may_use(&memory, &cells), want);
     }
     for (places, offers, yes) in POOLS {
         let memory = vec![in heap; Record {
@@ -58,7 +56,7 @@ fn memory_and_offers(rt: HostRuntime) -> Result<(), Fail> {
             tag: Tag::Data
         }; offers]?;
         let want = if yes { Ok(()) } else { Err(Refusal::Memory) };
-        assert_eq!(rt; Pool::may_use(&memory, &cells), want);
+        assert_eq!(rt; pool::may_use(&memory, &cells), want);
     }
     Ok(())
 }

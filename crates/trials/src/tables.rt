@@ -1,6 +1,7 @@
 // Which patch tables there are.
 use patch::table::Table;
 use refusal::Refusal;
+use std::test::Fail;
 
 // entries, and the refusal that they meet
 const REFUSED: [([u8; 8], Refusal); 8] = [
@@ -17,17 +18,10 @@ const REFUSED: [([u8; 8], Refusal); 8] = [
     ([9; 8], Refusal::EntryRange),
 ];
 
-fn refusal_of(entries: [u8; 8]) -> Option<Refusal> {
-    match Table::new(entries) {
-        Ok(_) => None,
-        Err(refusal) => Some(refusal),
-    }
-}
-
 #[test]
 fn refused_tables(rt: HostRuntime) {
     for (entries, refusal) in REFUSED {
-        assert_eq!(rt; refusal_of(entries), Some(refusal));
+        assert_eq!(rt; Table::try_from(entries).err(), Some(refusal));
     }
 }
 
@@ -35,8 +29,8 @@ fn refused_tables(rt: HostRuntime) {
 fn octal(number: u32) -> [u8; 8] {
     let mut digits = [0; 8];
     let mut rest = number;
-    for k in 0..8usize {
-        digits[k] = (rest % 8) as u8;
+    for digit in digits.iter_mut() {
+        *digit = (rest % 8) as u8;
         rest /= 8;
     }
     digits
@@ -44,15 +38,15 @@ fn octal(number: u32) -> [u8; 8] {
 
 // Of all tables whose entries are below 8, there are as many as the eight channels have orders, and each reads both ways.
 #[test]
-fn every_table(rt: HostRuntime) {
-    let mut made = 0u64;
-    for number in 0..16_777_216u32 {
-        if let Ok(table) = Table::new(octal(number)) {
-            made = made.saturating_add(1);
-            for k in 0..8u8 {
-                assert_eq!(rt; table.channel(table.entry(k)), k);
-            }
+fn every_table(rt: HostRuntime) -> Result<(), Fail> {
+    let tables: Vec<Table> = (0..16_777_216u32)
+        .filter_map(|number| Table::try_from(octal(number)).ok())
+        .collect(rt.alloc())?;
+    for table in &tables {
+        for k in 0..8u8 {
+            assert_eq!(rt; table.channel(table.entry(k)), k);
         }
     }
-    assert_eq!(rt; made, 40_320);
+    assert_eq!(rt; tables.len(), 40_320);
+    Ok(())
 }

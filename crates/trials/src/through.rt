@@ -1,29 +1,16 @@
 // Captions through patches, and what lies in the memory afterwards.
 use host::evening::play_script;
 use inserter::interface::Inserter;
-use lanes::Lanes;
 use patch::patch::Patch;
 use patch::table::Table;
-use pool::Pool;
 use pool::record::Record;
 use std::alloc::Global;
 use std::test::Fail;
 
-fn table(entries: [u8; 8]) -> Result<Table, Fail> {
-    match Table::new(entries) {
-        Ok(table) => Ok(table),
-        Err(_) => Err(Fail::new("the table is refused")),
-    }
-}
-
 // Plays a script, and says which lengths channels 0 to 7 then have.
 fn played<I: Inserter>(heap: Global, inserter: &mut I, script: &[u8]) -> Result<[u32; 8], Fail> {
     let _ = play_script(heap, inserter, script)?;
-    let mut lengths = [0; 8];
-    for k in 0..8u8 {
-        lengths[k as usize] = inserter.length(k);
-    }
-    Ok(lengths)
+    Ok([0, 1, 2, 3, 4, 5, 6, 7].map(|channel| inserter.length(channel)))
 }
 
 fn records_of(text: &[(u8, u8)]) -> [Record; 8] {
@@ -31,9 +18,11 @@ fn records_of(text: &[(u8, u8)]) -> [Record; 8] {
         channel: 9,
         byte: 0,
     }; 8];
-    for i in 0..text.len().min(8) {
-        let (channel, byte) = text[i];
-        records[i] = Record { channel, byte };
+    for (record, (channel, byte)) in records.iter_mut().zip(text) {
+        *record = Record {
+            channel: *channel,
+            byte: *byte,
+        };
     }
     records
 }
@@ -43,7 +32,7 @@ fn records_of(text: &[(u8, u8)]) -> [Record; 8] {
 fn full_pool(rt: HostRuntime) -> Result<(), Fail> {
     let heap = rt.alloc();
     let mut records = records_of(&[]);
-    let mut pool = Pool::new(&mut records, &[]);
+    let mut pool = pool::over(&mut records, &[]);
     let lengths = played(
         heap,
         &mut pool,
@@ -75,13 +64,13 @@ fn largest_pool(rt: HostRuntime) -> Result<(), Fail> {
         channel: 9,
         byte: 0
     }; 65_535]?;
-    if Pool::may_use(&records, &[]).is_err() {
+    if pool::may_use(&records, &[]).is_err() {
         return Err(Fail::new("the pool is refused"));
     }
     let mut script = vec![in heap; b'-'; 65_537]?;
     script[0] = b'6';
     script[1] = b' ';
-    let mut pool = Pool::new(&mut records, &[]);
+    let mut pool = pool::over(&mut records, &[]);
     assert_eq!(rt; pool.free(2), 65_535);
     let lengths = played(heap, &mut pool, &script)?;
     assert_eq!(rt; lengths, [0, 0, 0, 0, 0, 0, 65_535, 0]);
@@ -97,10 +86,10 @@ fn largest_pool(rt: HostRuntime) -> Result<(), Fail> {
 #[test]
 fn two_deep(rt: HostRuntime) -> Result<(), Fail> {
     let heap = rt.alloc();
-    let outer = table([1, 2, 3, 4, 5, 6, 7, 0])?;
-    let inner = table([0, 2, 1, 3, 4, 5, 7, 6])?;
+    let outer = Table::try_from([1, 2, 3, 4, 5, 6, 7, 0])?;
+    let inner = Table::try_from([0, 2, 1, 3, 4, 5, 7, 6])?;
     let mut records = records_of(&[]);
-    let mut pile = Patch::new(Patch::new(Pool::new(&mut records, &[]), &inner), &outer);
+    let mut pile = Patch::new(Patch::new(pool::over(&mut records, &[]), &inner), &outer);
     let lengths = played(heap, &mut pile, b"0 a\n1 b\n5 c\n6 d\n7 e\n")?;
     assert_eq!(rt; lengths, [1, 1, 0, 0, 0, 1, 1, 1]);
     assert_eq!(rt; pile.byte_at(6, 0), Some(b'd'));
@@ -109,7 +98,7 @@ fn two_deep(rt: HostRuntime) -> Result<(), Fail> {
         records_of(&[(2, b'a'), (1, b'b'), (7, b'c'), (6, b'd'), (0, b'e')])
     );
     let mut bytes = [b'.'; 16];
-    let mut pile = Patch::new(Patch::new(Lanes::new(&mut bytes, &[]), &inner), &outer);
+    let mut pile = Patch::new(Patch::new(lanes::over(&mut bytes, &[]), &inner), &outer);
     let lengths = played(heap, &mut pile, b"0 a\n1 b\n5 cc\n6 d\n7 eee\n")?;
     assert_eq!(rt; lengths, [1, 1, 0, 0, 0, 2, 1, 0]);
     assert_eq!(rt; bytes, *b"..b.a.......d.cc");

@@ -2,7 +2,7 @@
 use cell::cells::{Cell, Tag};
 use cell::channel::Channel;
 use script::encode::encode;
-use script::lines::{BadLine, channel_of, cut_line, text_of};
+use script::lines::{BadLine, caption_of, cut_line};
 use std::alloc::Global;
 use std::test::Fail;
 
@@ -25,13 +25,11 @@ const LINES: [(&[u8], Result<u8, BadLine>); 12] = [
 #[test]
 fn lines_of_a_script(rt: HostRuntime) {
     for (line, want) in LINES {
-        let got = match channel_of(line) {
-            Ok(channel) => Ok(channel.number()),
-            Err(bad) => Err(bad),
-        };
+        let got = caption_of(line).map(|caption| u8::from(caption.channel));
         assert_eq!(rt; got, want);
     }
-    assert_eq!(rt; text_of(b"3 8 o'clock"), b"8 o'clock".as_slice());
+    let text = caption_of(b"3 8 o'clock").map(|caption| caption.text);
+    assert_eq!(rt; text, Ok(b"8 o'clock".as_slice()));
     let (first, rest) = cut_line(b"one\n\ntwo");
     assert_eq!(rt; first, b"one".as_slice());
     let (second, rest) = cut_line(rest);
@@ -68,32 +66,28 @@ const RUNS: [(usize, &[(u8, Tag)]); 7] = [
 // The cells of a caption of n equal bytes.
 fn run_of(heap: Global, n: usize) -> Result<Vec<Cell>, Fail> {
     let text = vec![in heap; b'-'; n]?;
-    let Some(channel) = Channel::new(6) else {
-        return Err(Fail::new("no channel"));
-    };
-    Ok(encode(heap, channel, &text)?)
+    Ok(encode(heap, Channel::try_from(6)?, &text)?)
 }
 
 #[test]
 fn runs_of_equal_bytes(rt: HostRuntime) -> Result<(), Fail> {
     for (n, want) in RUNS {
         let cells = run_of(rt.alloc(), n)?;
-        assert_eq!(rt; cells.len(), want.len() + 1);
-        assert_eq!(rt;
-            cells.get(0).copied(),
-            Some(Cell {
-                byte: 0x86,
-                tag: Tag::Command,
-            })
-        );
-        for (i, (byte, tag)) in want.iter().enumerate() {
-            assert_eq!(rt;
-                cells.get(i + 1).copied(),
-                Some(Cell {
-                    byte: *byte,
-                    tag: *tag,
-                })
-            );
+        let Some((address, run)) = cells.split_first() else {
+            return Err(Fail::new("no cells"));
+        };
+        let to_six = Cell {
+            byte: 0x86,
+            tag: Tag::Command,
+        };
+        assert_eq!(rt; *address, to_six);
+        assert_eq!(rt; run.len(), want.len());
+        for (cell, (byte, tag)) in run.iter().zip(want) {
+            let wanted = Cell {
+                byte: *byte,
+                tag: *tag,
+            };
+            assert_eq!(rt; *cell, wanted);
         }
     }
     Ok(())
