@@ -10,7 +10,7 @@ use cell::lines::{Answer, PeriphLines};
 use inserter::front::{Front, Rule, Way};
 
 // The front of a new inserter, and of one whose cable was dropped.
-pub(crate) fn at_rest(delay: u8) -> Front
+pub fn at_rest(delay: u8) -> Front
     ensures { result ≡ resting delay }
 {
     Front {

@@ -2,7 +2,7 @@
 #![tactic(auto)]
 
 mod as_inserter;
-mod faces;
+pub mod faces;
 pub mod limits;
 mod rules;
 pub mod shaken;
