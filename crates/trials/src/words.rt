@@ -2,7 +2,7 @@
 use cell::cells::{Cell, Tag};
 use cell::channel::Channel;
 use script::encode::encode;
-use script::lines::{BadLine, caption_of, cut_line};
+use script::lines::{BadLine, caption_of, cut_line, text_of};
 use std::alloc::Global;
 use std::test::Fail;
 
@@ -28,6 +28,7 @@ fn lines_of_a_script(rt: HostRuntime) {
         let got = caption_of(line).map(|caption| u8::from(caption.channel));
         assert_eq!(rt; got, want);
     }
+    assert_eq!(rt; text_of(b"3 8 o'clock"), b"8 o'clock".as_slice());
     let text = caption_of(b"3 8 o'clock").map(|caption| caption.text);
     assert_eq!(rt; text, Ok(b"8 o'clock".as_slice()));
     let (first, rest) = cut_line(b"one\n\ntwo");
