@@ -54,6 +54,7 @@ fn refused(rt: &HostRuntime, refusal: Refusal) -> anyhow::Result<()> {
     Err(anyhow!("nothing was sent"))
 }
 
+// The makes differ in memory, question and making, and what is the same for both is `patched`.
 fn play_through(rt: &HostRuntime, setup: Setup, table: Option<Table>) -> anyhow::Result<()> {
     let heap = rt.alloc();
     let mut script = Vec::new(heap);
@@ -62,22 +63,20 @@ fn play_through(rt: &HostRuntime, setup: Setup, table: Option<Table>) -> anyhow:
     match setup.make {
         Make::Lanes => {
             let mut memory = vec![in heap; 0u8; 8 * setup.places as usize]?;
-            if let Err(refusal) = lanes::may_use(&memory, &[]) {
-                return refused(rt, refusal);
+            match lanes::may_use(&memory, &[]) {
+                Ok(()) => patched(rt, setup, lanes::over(&mut memory, &[]), table, &script),
+                Err(refusal) => refused(rt, refusal),
             }
-            print_setup(rt, setup)?;
-            patched(rt, lanes::over(&mut memory, &[]), table, &script)
         }
         Make::Pool => {
             let mut memory = vec![in heap; Record {
                 channel: 0,
                 byte: 0
             }; setup.places as usize]?;
-            if let Err(refusal) = pool::may_use(&memory, &[]) {
-                return refused(rt, refusal);
+            match pool::may_use(&memory, &[]) {
+                Ok(()) => patched(rt, setup, pool::over(&mut memory, &[]), table, &script),
+                Err(refusal) => refused(rt, refusal),
             }
-            print_setup(rt, setup)?;
-            patched(rt, pool::over(&mut memory, &[]), table, &script)
         }
     }
 }
@@ -85,10 +84,12 @@ fn play_through(rt: &HostRuntime, setup: Setup, table: Option<Table>) -> anyhow:
 // Through the table, where there is one.
 fn patched<I: Inserter + Drop>(
     rt: &HostRuntime,
+    setup: Setup,
     inserter: I,
     table: Option<Table>,
     script: &[u8],
 ) -> anyhow::Result<()> {
+    print_setup(rt, setup)?;
     match table {
         None => perform(rt, inserter, script),
         Some(table) => perform(rt, Patch::new(inserter, &table), script),

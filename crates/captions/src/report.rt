@@ -57,6 +57,7 @@ fn taken_in(told: &[Outcome]) -> (usize, u128) {
 
 // Each channel: how many bytes it holds and has room for, the bytes in hex, and as text.
 pub(crate) fn print_channels<I: Inserter>(rt: &HostRuntime, inserter: &I) -> anyhow::Result<()> {
+    // these are channels, and no places in a list
     for channel in 0..8u8 {
         let length = inserter.length(channel);
         let free = inserter.free(channel);

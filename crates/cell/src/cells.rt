@@ -59,7 +59,8 @@ impl From<Cell> for Kind {
     }
 }
 
-// The cell that goes out: the byte shown, tagged by HostAck.
+// The cell that goes out: the byte shown, tagged by HostAck. What comes back below has other lines, and one body for both would
+// take a trait of two methods.
 impl From<Shown> for Cell {
     ghost from_gives = { λ shown cell. cell ≡ sent_as shown };
 

@@ -24,7 +24,8 @@ pub fn at_rest(delay: u8) -> Front
 }
 
 impl<S: Storage> Handshake<'_, S> {
-    // The front after a rule is carried out.
+    // The front after a rule is carried out. Each rule has an arm, as it has a line in the rules, and no rule is a value that
+    // somebody hands in, as a closure would be.
     pub(crate) fn front_after(&self, rule: Rule) -> Front
         ensures { result ≡ faced rule S.delay self.now.offers.now self.now.front }
     {

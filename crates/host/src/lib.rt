@@ -1,4 +1,5 @@
-// The host's side of the handshake, for an inserter of any make.
+// The host's side of the handshake, for an inserter of any make. The allocator is handed to each function beside the inserter, as
+// it is wherever memory is asked for; a value of both would be taken apart again by whatever needs one.
 #![tactic(auto)]
 
 pub mod deliver;

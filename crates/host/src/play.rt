@@ -45,6 +45,7 @@ fn acknowledged<I: Inserter>(inserter: &mut I, cell: Cell) -> bool
     ensures { Asked I.delay cell (I.meaning inserter.old) result (I.meaning inserter.new) }
 {
     let shown = shown_as(cell, false);
+    // as many times, and no place in a list
     for _past in 0..I::named_delay() {
         let _ = inserter.look(shown);
     }

@@ -34,6 +34,6 @@ pub enum Rule {
     Show,
     Release,
     Withdraw,
-    // no condition holds: nothing changes
+    // no condition holds: nothing changes. Like the others it says what a look does, so that a rule is no Option.
     Rest,
 }

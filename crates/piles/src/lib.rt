@@ -14,7 +14,7 @@ use patch::table::Table;
 use pool::record::Record;
 use refusal::Refusal;
 
-// Looks twice at new lanes.
+// Looks twice at new lanes. Both functions here say what one make and its pile promise together: what they share is `look_twice`.
 pub fn settle_lanes(
     bytes: &mut [u8],
     offers: &[Cell],

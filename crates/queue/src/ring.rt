@@ -4,6 +4,7 @@ ghost use Rattle.queue.specs.Circle.{place};
 
 use std::marker::Model;
 
+// The slots stand in the value with their number beside them, since a port has no heap to keep a Vec on.
 #[derive(Drop)]
 pub(crate) struct Ring<T: Copy, const N: usize> {
     slots: [T; N],

@@ -7,7 +7,8 @@ use cell::cells::{Cell, Tag};
 use cell::channel::Channel;
 use std::alloc::{AllocError, Global};
 
-// The cell that says which channel the bytes after it are for.
+// The cell that says which channel the bytes after it are for. By its name, and not by `From`: a channel is no cell until one
+// says that it is an address.
 fn address_cell(channel: Channel) -> Cell
     ensures { result ≡ address_cell channel.number }
 {

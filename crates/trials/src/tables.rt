@@ -43,6 +43,7 @@ fn every_table(rt: HostRuntime) -> Result<(), Fail> {
         .filter_map(|number| Table::try_from(octal(number)).ok())
         .collect(rt.alloc())?;
     for table in &tables {
+        // each channel, which is no place in a list
         for k in 0..8u8 {
             assert_eq!(rt; table.channel(table.entry(k)), k);
         }

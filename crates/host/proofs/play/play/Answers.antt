@@ -15,4 +15,3 @@ loop-taken-preserved g c =
           (subst (λ r. Gave r d (get_or cs i no_cell) (means c.loop-taken.inserter) m') c.if-not-give.false c.give.ensures.gave),
       looks_more c.loop-taken.looks i c.cost-each.result c.loop-taken.invariant.1,
     )
-
