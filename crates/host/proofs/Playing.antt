@@ -1,15 +1,13 @@
 -- Cells given one after the other.
-use Rattle.std.proofs.Common.{◌≡◌, ℕ, ◌+◌, ◌-◌, ◌*◌, ◌<◌, ◌≤◌, false, cond, ltb, List, [], ◌∷◌, ◌++◌, length, get_or, take, sym, refl, ap, ◌∙◌, subst, append_assoc, append-nil, add_assoc, add-mul, one-mul, zero-add, arith}
+use Rattle.std.proofs.Common.{◌≡◌, ℕ, ◌+◌, ◌*◌, ◌<◌, ◌≤◌, List, [], ◌∷◌, ◌++◌, length, get_or, take, sym, ap, ◌∙◌, append_assoc, append-nil, add_assoc, add-mul, one-mul, zero-add, arith}
 use mathlib.Core.List.{map-append}
 use Rattle.std.proofs.lemmas.List.{take_more}
-use Rattle.std.proofs.lemmas.Bool.Decides.{nat_tests}
 use Rattle.cell.specs.declared.cells.Cell.{Cell}
 use Rattle.cell.specs.declared.cursor.Cursor.{Cursor}
 use Rattle.cell.specs.Reading.{cell, cells, start, moved, gained, reached, reading}
 use Rattle.cell.proofs.Laws.{reached-++, added-++}
 use Rattle.inserter.specs.Meaning.{Meaning, resting}
-use Rattle.inserter.specs.Rules.{fits_as, fallen}
-use Rattle.host.specs.Playing.{no_cell, kept_of, kept, Took, Plays}
+use Rattle.host.specs.Playing.{no_cell, kept_of, kept, Took}
 
 pub kept-++ : (r : Cursor) (xs ys : List Cell) → kept r (xs ++ ys) ≡ kept r xs + kept (reached r (cells xs)) ys
 kept-++ r [] ys = sym (zero-add (kept r ys))
@@ -22,10 +20,6 @@ pub record SoFar (d : ℕ) (m : Meaning) (cs : List Cell) (i : ℕ) (m' : Meanin
   pub offers : m'.offers ≡ m.offers
   pub front : m'.front ≡ resting d
   pub places : (k : ℕ) → m.free k ≤ m'.free k + kept start (take i cs)
-
-pub none_yet : (d : ℕ) (m₀ m : Meaning) (cs : List Cell) → m ≡ fallen d m₀ → SoFar d m cs 0 m
-none_yet d m₀ m cs e =
-    subst (λ x. SoFar d x cs 0 x) (sym e) (record { held = λ k. sym (append-nil (m₀.held k)); cursor = refl; offers = refl; front = refl; places = λ k. omega arith })
 
 module _ (d : ℕ) (m : Meaning) (cs : List Cell) (i : ℕ) (m₁ : Meaning) (so : SoFar d m cs i m₁) where
   pub one_more : i < length cs → (m' : Meaning) → Took d (get_or cs i no_cell) m₁ m' → SoFar d m cs (i + 1) m'
@@ -48,19 +42,6 @@ module _ (d : ℕ) (m : Meaning) (cs : List Cell) (i : ℕ) (m₁ : Meaning) (so
             omega (arith, so.places k, took.places k, n);
       }
 
-  module _ (m₀ : Meaning) (spent : ℕ) (within : i ≤ length cs) (stopped : i < length cs → fits_as (get_or cs i no_cell).tag m₁ ≡ false)
-      (looks : spent ≡ i * (d + 2) + cond (ltb i (length cs)) (d + 1) 0) where
-    pub played : m ≡ fallen d m₀ → Plays d m₀ cs m₁ i spent
-    played e =
-        let from = subst (λ x. SoFar d x cs i m₁) e so in
-        record { within = within; held = from.held; cursor = from.cursor; offers = from.offers; front = from.front; places = from.places; stopped = stopped; looks = looks }
-
 -- looks, counted
 pub looks_more : (n i e : ℕ) → n ≡ i * e → n + e ≡ (i + 1) * e
 looks_more n i e h = omega (arith, add-mul i 1 e, one-mul e)
-
-pub looks_stopped : (n i l d e : ℕ) → e ≡ d + 2 → n ≡ i * e → i < l → n + e - 1 ≡ i * (d + 2) + cond (ltb i l) (d + 1) 0
-looks_stopped n i l d e f h s = grind (arith, nat_tests)
-
-pub looks_all : (n i l d e : ℕ) → e ≡ d + 2 → n ≡ i * e → l ≤ i → n ≡ i * (d + 2) + cond (ltb i l) (d + 1) 0
-looks_all n i l d e f h s = grind (arith, nat_tests)

@@ -1,6 +1,6 @@
-use Rattle.std.proofs.Common.{◌≡◌, length, vec_items, sym, arith}
-use Rattle.std.proofs.lemmas.Bool.{eqb-true, eqb-false}
-use Rattle.host.proofs.Telling.{none_told, all_told, one_more_told}
+use Rattle.std.proofs.Common.{length, vec_items, sym}
+use Rattle.std.proofs.lemmas.Bool.{eqb-true}
+use Rattle.host.proofs.Telling.{all_told}
 use Rattle.host.proofs.evening.play_script.Goals as goal
 
 pub returns : goal.returns

@@ -1,7 +1,6 @@
-use Rattle.std.proofs.Common.{length, get_or, sym, ap, ◌∙◌, subst, zero-mul, arith}
-use Rattle.inserter.specs.Rules.{fits_as}
-use Rattle.host.specs.Playing.{Gave, Plays, no_cell}
-use Rattle.host.proofs.Playing.{SoFar, none_yet, one_more, played, looks_more, looks_stopped, looks_all}
+use Rattle.std.proofs.Common.{get_or, subst}
+use Rattle.host.specs.Playing.{Gave, no_cell}
+use Rattle.host.proofs.Playing.{one_more, looks_more}
 use Rattle.host.proofs.play.play.Goals as goal
 
 pub loop-taken-preserved : goal.loop-taken-preserved
