@@ -81,7 +81,7 @@ fn play_through(rt: &HostRuntime, setup: Setup, table: Option<Table>) -> anyhow:
     }
 }
 
-// Through the table, where there is one.
+// Prints what is played to, and plays the script through the table, where there is one.
 fn patched<I: Inserter + Drop>(
     rt: &HostRuntime,
     setup: Setup,

@@ -59,8 +59,8 @@ impl From<Cell> for Kind {
     }
 }
 
-// The cell that goes out: the byte shown, tagged by HostAck. What comes back below has other lines, and one body for both would
-// take a trait of two methods.
+// The cell that goes out: the byte shown, tagged by HostAck. What comes back, below, has the other end's lines: one body for both
+// would take a trait that says which line of each is the tag.
 impl From<Shown> for Cell {
     ghost from_gives = { λ shown cell. cell ≡ sent_as shown };
 

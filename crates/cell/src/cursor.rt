@@ -25,10 +25,7 @@ impl Cursor {
     pub fn repeats(self) -> u32
         ensures { result ≡ repeats self.count }
     {
-        match self.count {
-            None => 1,
-            Some(n) => u32::from(n) + 1,
-        }
+        self.count.map_or(1, |n| u32::from(n) + 1)
     }
 
     // Where the reading stands after one cell more.

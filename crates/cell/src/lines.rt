@@ -11,7 +11,8 @@ pub struct HostLines {
     pub nreverse: bool,
 }
 
-// What the host shows the far end: its lines and its byte.
+// What the host shows the far end: its lines and its byte. What is answered, below, is a type of its own and not the same one over
+// other lines: the two never stand for one another, and each would be spelled by an alias.
 #[derive(Clone, Copy)]
 pub struct Shown {
     pub lines: HostLines,

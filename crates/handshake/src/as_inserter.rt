@@ -32,6 +32,7 @@ impl<S: Storage> Inserter for Handshake<'_, S> {
     {
         let rule = self.rule(shown.lines);
         let front = self.front_after(rule);
+        // the two rules that do more than change the front
         match rule {
             Rule::Take => self.read(Cell::from(shown)),
             Rule::Withdraw => self.withdraw(),

@@ -95,13 +95,9 @@ impl<S: Storage> Handshake<'_, S> {
     pub(crate) fn answer(&self) -> Answer
         ensures { result ≡ answer_of (seen S.held S.free self.now) }
     {
-        let byte = match self.front.shown {
-            Some(cell) => cell.byte,
-            None => 0,
-        };
         Answer {
             lines: self.lines(),
-            byte,
+            byte: self.front.shown.map_or(0, |cell| cell.byte),
         }
     }
 }

@@ -1,4 +1,4 @@
-// The handshake of every make, in code once: a make is a storage under it, and every storage under it is an inserter.
+// The handshake of every make, in code once: a make is a storage under it, and over every storage it is an inserter.
 #![tactic(auto)]
 
 mod as_inserter;

@@ -1,4 +1,4 @@
-// What the handshake needs of a make: where its bytes are kept.
+// What the handshake needs of a make: where its bytes are kept, and its delay.
 ghost use Rattle.std.specs.Prelude.{◌≡◌, ℕ, min, List, length};
 ghost use Rattle.inserter.specs.Meaning.{at_place};
 ghost use Rattle.handshake.specs.Storage.{Grown};

@@ -57,6 +57,6 @@ pub fn deliver<I: Inserter>(
     if !has_room(inserter, caption) {
         return Err(Undelivered::NoRoom);
     }
-    let cells = encode(heap, caption.channel, caption.text)?;
+    let cells = encode(heap, caption)?;
     Ok(play(inserter, &cells))
 }

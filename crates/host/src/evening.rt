@@ -31,6 +31,7 @@ pub fn play_script<I: Inserter>(
 {
     let mut told = Vec::new(heap);
     let mut rest = script;
+    // by `cut_line`, since the library's `split` gives one piece more where a script ends in a line end
     while !rest.is_empty() {
         let (line, later) = cut_line(rest);
         note_line(heap, &mut told, inserter, line)?;

@@ -34,6 +34,7 @@ pub enum Rule {
     Show,
     Release,
     Withdraw,
-    // no condition holds: nothing changes. Like the others it says what a look does, so that a rule is no Option.
+    // No condition holds: nothing changes. It is an answer to the same question, so a rule is no Option, which would put a `Some`
+    // round each rule and one more match before each use.
     Rest,
 }

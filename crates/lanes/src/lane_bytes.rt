@@ -42,8 +42,8 @@ impl LaneBytes<'_> {
         ensures { result.now ≡ held_by self.now channel }
     {
         if channel < 8 {
-            let start = channel as usize * self.stretch() as usize;
-            &self.bytes[start..self.next_place(channel)]
+            let start = usize::from(channel) * self.stretch() as usize;
+            &self.bytes[start..start + self.used(channel) as usize]
         } else {
             &[]
         }
@@ -53,7 +53,7 @@ impl LaneBytes<'_> {
     fn next_place(&self, channel: u8) -> usize
         ensures { result ≡ next_place self.now.bytes.now self.now.lens channel }
     {
-        channel as usize * self.stretch() as usize + self.used(channel) as usize
+        usize::from(channel) * self.stretch() as usize + self.used(channel) as usize
     }
 
     // The byte n times more on a lane that has the places.

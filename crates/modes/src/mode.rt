@@ -8,16 +8,16 @@ use std::fmt;
 // Bits 7 to 5 of ECR.
 #[derive(Clone, Copy, PartialEq, Eq, Debug)]
 pub enum Mode {
-    // 000: the standard port, output only
-    Spp,
-    // 001: both directions, byte by byte
-    Byte,
-    // 011: the extended capabilities port, with its queue
-    Ecp,
-    // 110: the queue is tested, and the cable is left alone
-    Test,
-    // 111: the configuration registers can be reached
-    Config,
+    // the standard port, output only
+    Spp = 0b000,
+    // both directions, byte by byte
+    Byte = 0b001,
+    // the extended capabilities port, with its queue
+    Ecp = 0b011,
+    // the queue is tested, and the cable is left alone
+    Test = 0b110,
+    // the configuration registers can be reached
+    Config = 0b111,
 }
 
 // Three bits that are none of the port's modes.
@@ -31,8 +31,8 @@ pub enum Direction {
     In,
 }
 
-// Which modes may be entered. It depends on what hangs on the cable. There is a field for each mode, since a list of modes
-// would also have an order and repeats, and five bits of a number would not be named.
+// Which modes may be entered. It depends on what hangs on the cable. There is a field for each mode: a list of modes would
+// also have an order and repeats, and a set of flags would give each mode a second name, and `admit` the same five arms.
 #[derive(Clone, Copy)]
 pub struct Modes {
     pub spp: bool,
@@ -74,13 +74,7 @@ impl From<Mode> for u8 {
     ghost from_gives = { λ mode code. code ≡ code_of mode };
 
     fn from(mode: Mode) -> u8 {
-        match mode {
-            Mode::Spp => 0,
-            Mode::Byte => 1,
-            Mode::Ecp => 3,
-            Mode::Test => 6,
-            Mode::Config => 7,
-        }
+        mode as u8
     }
 }
 
@@ -146,7 +140,7 @@ impl Mode {
     }
 
     // Whether cells stored now are forward cells, on their way to the far end. Mode and direction are two arguments, here and
-    // below, since two registers hold them: neither is written with the other.
+    // below: two registers hold them, and what asks for the mode alone, as `queues`, has no use for the other.
     pub fn forwards(self, direction: Direction) -> bool
         ensures { result ≡ forwards self direction }
     {

@@ -4,6 +4,7 @@
 pub mod said;
 mod words;
 
+use std::error::Error;
 use std::fmt;
 
 pub const USAGE: &str = "captions: plays a script of captions to a caption inserter
@@ -67,6 +68,8 @@ impl fmt::Display for Wrong {
         }
     }
 }
+
+impl Error for Wrong {}
 
 #[cfg(test)]
 mod tests {

@@ -14,7 +14,8 @@ use patch::table::Table;
 use pool::record::Record;
 use refusal::Refusal;
 
-// Looks twice at new lanes. Both functions here say what one make and its pile promise together: what they share is `look_twice`.
+// Looks twice at new lanes. This and the next function each say of one make what is promised of it with no premise left; what both
+// do is `look_twice`.
 pub fn settle_lanes(
     bytes: &mut [u8],
     offers: &[Cell],

@@ -1,4 +1,4 @@
--- What the queue means: its cells in order, the first to leave first.
+-- The rules of the queue, over its cells in order: the first is the first to leave.
 use Rattle.std.specs.Prelude.{ℕ, ◌+◌, Bool, cond, List, [], ◌∷◌, ◌++◌, length, Some, None, Ok, Err, Option, Result, ◌==◌, nat_le}
 use Rattle.cell.specs.declared.cells.Cell.{Cell}
 use Rattle.queue.specs.declared.fifo.NoRoom.{NoRoom}

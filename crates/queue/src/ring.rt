@@ -4,7 +4,8 @@ ghost use Rattle.queue.specs.Circle.{place};
 
 use std::marker::Model;
 
-// The slots stand in the value with their number beside them, since a port has no heap to keep a Vec on.
+// The slots stand in the value with their number beside them, since a port has no heap to keep a Vec on. (The kit's `ArrayVec` has
+// no heap either; it would want a default cell, which nobody sent, and move each cell where the first leaves.)
 #[derive(Drop)]
 pub(crate) struct Ring<T: Copy, const N: usize> {
     slots: [T; N],

@@ -41,7 +41,8 @@ pub enum Refusal {
     EntryTwice,
 }
 
-// The number under which it is refused.
+// The number under which it is refused. A match, and no numbers at the variants: there two that are alike would be no program, and
+// not a false promise.
 impl From<Refusal> for u8 {
     ghost from_gives = { λ refusal number. number ≡ number_of refusal };
 

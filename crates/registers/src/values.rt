@@ -36,7 +36,7 @@ impl From<ControlBits> for u8 {
     }
 }
 
-// CnfgA: interrupts are pulsed, a word is one byte, and the byte in the transmitter is not counted in the queue.
+// CnfgA, a function as the other registers are, though it always reads the same: interrupts are pulsed, a word is one byte, and the byte in the transmitter is not counted in the queue.
 pub fn config_a() -> u8
     ensures { result ≡ config_a }
 {

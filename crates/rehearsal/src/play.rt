@@ -24,7 +24,7 @@ impl fmt::Display for Levels {
     }
 }
 
-// By hand, since `to_digit` would take small letters too, which the table has no use for.
+// By hand: `to_digit` takes small letters too, and here they count as 0.
 fn digit(letter: u8) -> u8 {
     match letter {
         b'0'..=b'9' => letter - b'0',

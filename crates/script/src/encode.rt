@@ -2,6 +2,7 @@
 ghost use Rattle.std.specs.Prelude.{◌≡◌, ◌++◌, IfOk, OnOk};
 ghost use Rattle.script.specs.Encoding.{address_cell, run_cells, text_cells, caption_cells, Spells};
 
+use super::lines::Caption;
 use super::run::Run;
 use cell::cells::{Cell, Tag};
 use cell::channel::Channel;
@@ -29,7 +30,8 @@ fn push_run(cells: &mut Vec<Cell>, run: Run) -> Result<(), AllocError>
     Ok(())
 }
 
-// A text, run by run, at the end of the list.
+// A text, run by run, at the end of the list. Byte by byte, with the run at hand as a value that keeps its own bound; runs cut by
+// `chunk_by` and again by `chunks` would have to be measured once more for their count.
 fn push_text(cells: &mut Vec<Cell>, text: &[u8]) -> Result<(), AllocError>
     ensures { OnOk result (cells.new.items ≡ cells.old.items ++ text_cells text.now) }
 {
@@ -50,12 +52,12 @@ fn push_text(cells: &mut Vec<Cell>, text: &[u8]) -> Result<(), AllocError>
 }
 
 // The cells of a caption. Read, they give its text on its channel, and nothing on any other.
-pub fn encode(heap: Global, channel: Channel, text: &[u8]) -> Result<Vec<Cell>, AllocError>
-    ensures cells { IfOk result (λ v. v.items ≡ caption_cells channel.number text.now) }
-    ensures reading { IfOk result (λ v. Spells v.items channel.number text.now) }
+pub fn encode(heap: Global, caption: Caption<'_>) -> Result<Vec<Cell>, AllocError>
+    ensures cells { IfOk result (λ v. v.items ≡ caption_cells caption.entry.channel.number caption.entry.text.now) }
+    ensures reading { IfOk result (λ v. Spells v.items caption.entry.channel.number caption.entry.text.now) }
 {
     let mut cells = Vec::new(heap);
-    cells.push(address_cell(channel))?;
-    push_text(&mut cells, text)?;
+    cells.push(address_cell(caption.channel))?;
+    push_text(&mut cells, caption.text)?;
     Ok(cells)
 }

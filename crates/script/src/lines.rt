@@ -4,6 +4,7 @@ ghost use Rattle.script.specs.Lines.{first_line, later_lines, text_of, letter_an
 
 use super::digits::digit;
 use cell::channel::Channel;
+use std::error::Error;
 use std::fmt;
 
 // Why a line is no caption.
@@ -26,6 +27,8 @@ impl fmt::Display for BadLine {
         }
     }
 }
+
+impl Error for BadLine {}
 
 // Where the first line of a script ends, unless the script ends before.
 fn line_end(script: &[u8]) -> Option<usize>

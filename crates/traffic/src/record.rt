@@ -1,9 +1,11 @@
 // The record of what is on its way, and what it is asked.
 ghost use Rattle.std.specs.Prelude.{◌≡◌, ◌≤◌, true, length};
 ghost use Rattle.queue.specs.Depth.{depth};
+ghost use Rattle.queue.specs.Cells.{first};
 ghost use Rattle.traffic.specs.Stages.{asks_rightly, asks_with_room};
 
 use super::stage::Stage;
+use cell::cells::Cell;
 use cell::lines::Answer;
 use modes::mode::{Direction, Mode};
 use queue::fifo::Queue;
@@ -64,6 +66,27 @@ impl Traffic {
         ensures bounded { result ≤ depth }
     {
         self.queue.len()
+    }
+
+    // The first cell of the queue, if there is one.
+    pub fn first(&self) -> Option<Cell>
+        ensures { result ≡ first self.now.queue }
+    {
+        self.queue.first()
+    }
+
+    // How many times more than once the first byte of the queue is still to be given out.
+    pub fn waiting(&self) -> u8
+        ensures { result ≡ self.now.waiting }
+    {
+        self.waiting
+    }
+
+    // The channel address last stored, if one is known.
+    pub fn known(&self) -> Option<u8>
+        ensures { result ≡ self.now.known }
+    {
+        self.known
     }
 
     // Where it stands, and that a cell is asked for only where it may come.

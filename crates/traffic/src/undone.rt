@@ -49,6 +49,7 @@ impl From<NoRoom> for Undone {
     }
 }
 
+// A match, and no numbers at the variants, so that the number of what is done, 0, has no variant to stand at.
 impl From<Undone> for u8 {
     ghost from_gives = { λ undone number. number ≡ undone_number undone };
 

@@ -1,12 +1,18 @@
 // Which memory lanes and pools are made of, and what a refusal says.
 use cell::cells::{Cell, Tag};
+use inserter::interface::Inserter;
+use lanes::Lanes;
+use patch::patch::Patch;
+use pool::Pool;
 use pool::record::Record;
 use refusal::Refusal;
-use std::alloc::{AllocError, Global};
+use std::alloc::Global;
 use std::test::Fail;
 
-// the length of the memory, the number of offers, and what is answered when lanes are to use them
-const LANES: [(usize, usize, Result<(), Refusal>); 15] = [
+// how many places the memory has, how many cells are offered, and what is answered when a make is to use them
+type Row = (usize, usize, Result<(), Refusal>);
+
+const LANES: [Row; 15] = [
     (0, 0, Err(Refusal::Memory)),
     (1, 0, Err(Refusal::Memory)),
     (7, 0, Err(Refusal::Memory)),
@@ -24,8 +30,7 @@ const LANES: [(usize, usize, Result<(), Refusal>); 15] = [
     (0, 65_536, Err(Refusal::Memory)),
 ];
 
-// the number of records, the number of offers, and what is answered when a pool is to use them
-const POOLS: [(usize, usize, Result<(), Refusal>); 7] = [
+const POOLS: [Row; 7] = [
     (0, 0, Err(Refusal::Memory)),
     (1, 0, Ok(())),
     (9, 65_535, Ok(())),
@@ -35,29 +40,45 @@ const POOLS: [(usize, usize, Result<(), Refusal>); 7] = [
     (8 * 65_535, 0, Err(Refusal::Memory)),
 ];
 
-// So many cells to be offered.
-fn offered(heap: Global, cells: usize) -> Result<Vec<Cell>, AllocError> {
-    Ok(vec![in heap; Cell {
+// Asks a make's question of each row, over memory of such items.
+fn ask<T: Copy + Drop, F: Fn(&[T], &[Cell]) -> Result<(), Refusal>>(
+    heap: Global,
+    rows: &[Row],
+    item: T,
+    may_use: F,
+) -> Result<(), Fail>
+    requires { F.IsAlwaysCallable may_use }
+{
+    let cell = Cell {
         byte: 0,
-        tag: Tag::Data
-    }; cells]?)
+        tag: Tag::Data,
+    };
+    for (places, offers, want) in rows {
+        let memory = vec![in heap; item; *places]?;
+        let cells = vec![in heap; cell; *offers]?;
+        if may_use(&memory, &cells) != *want {
+            return Err(Fail::new("a row is answered otherwise"));
+        }
+    }
+    Ok(())
 }
 
 #[test]
 fn memory_and_offers(rt: HostRuntime) -> Result<(), Fail> {
-    let heap = rt.alloc();
-    for (places, cells, want) in LANES {
-        let memory = vec![in heap; 0u8; places]?;
-        assert_eq!(rt; lanes::may_use(&memory, &offered(heap, cells)?), want);
-    }
-    for (places, cells, want) in POOLS {
-        let memory = vec![in heap; Record {
-            channel: 0,
-            byte: 0
-        }; places]?;
-        assert_eq!(rt; pool::may_use(&memory, &offered(heap, cells)?), want);
-    }
-    Ok(())
+    let record = Record {
+        channel: 0,
+        byte: 0,
+    };
+    ask(rt.alloc(), &LANES, 0u8, lanes::may_use)?;
+    ask(rt.alloc(), &POOLS, record, pool::may_use)
+}
+
+// The constants of the interface, which the contracts speak of through `named_delay`.
+#[test]
+fn delays(rt: HostRuntime) {
+    assert_eq!(rt; Lanes::DELAY, 0);
+    assert_eq!(rt; Pool::DELAY, 2);
+    assert_eq!(rt; Patch::<Pool>::DELAY, 2);
 }
 
 #[test]

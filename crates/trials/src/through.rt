@@ -64,9 +64,7 @@ fn largest_pool(rt: HostRuntime) -> Result<(), Fail> {
         channel: 9,
         byte: 0
     }; 65_535]?;
-    if pool::may_use(&records, &[]).is_err() {
-        return Err(Fail::new("the pool is refused"));
-    }
+    pool::may_use(&records, &[])?;
     let mut script = vec![in heap; b'-'; 65_537]?;
     script[0] = b'6';
     script[1] = b' ';

@@ -2,7 +2,7 @@
 use cell::cells::{Cell, Tag};
 use cell::channel::Channel;
 use script::encode::encode;
-use script::lines::{BadLine, caption_of, cut_line, text_of};
+use script::lines::{BadLine, Caption, caption_of, cut_line, text_of};
 use std::alloc::Global;
 use std::test::Fail;
 
@@ -67,16 +67,18 @@ const RUNS: [(usize, &[(u8, Tag)]); 7] = [
 // The cells of a caption of n equal bytes.
 fn run_of(heap: Global, n: usize) -> Result<Vec<Cell>, Fail> {
     let text = vec![in heap; b'-'; n]?;
-    Ok(encode(heap, Channel::try_from(6)?, &text)?)
+    let caption = Caption {
+        channel: Channel::try_from(6)?,
+        text: &text,
+    };
+    Ok(encode(heap, caption)?)
 }
 
 #[test]
 fn runs_of_equal_bytes(rt: HostRuntime) -> Result<(), Fail> {
     for (n, want) in RUNS {
         let cells = run_of(rt.alloc(), n)?;
-        let Some((address, run)) = cells.split_first() else {
-            return Err(Fail::new("no cells"));
-        };
+        let (address, run) = cells.split_first().ok_or_else(|| Fail::new("no cells"))?;
         let to_six = Cell {
             byte: 0x86,
             tag: Tag::Command,

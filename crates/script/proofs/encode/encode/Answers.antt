@@ -6,7 +6,7 @@ use Rattle.script.proofs.encode.encode.Goals as goal
 
 pub returns-clause-reading : goal.returns-clause-reading
 returns-clause-reading c =
-    let channel = c.args.channel.number in
-    let text = c.args.text.now in
+    let channel = c.args.caption.channel.number in
+    let text = c.args.caption.text.now in
     let cells : vec_items c.push_text.new.cells ≡ caption_cells channel text = grind (arith, common_steps) in
-    subst (λ v. Spells v channel text) (sym cells) (spells channel text c.args.channel.kept)
+    subst (λ v. Spells v channel text) (sym cells) (spells channel text c.args.caption.channel.kept)
