@@ -51,6 +51,7 @@ impl<S: Storage> Inserter for Handshake<'_, S> {
         self.lines()
     }
 
+    // A question may be asked of any number, so each asks whether it is a channel; a parameter that knew it would ask more of callers.
     fn length(&self, channel: u8) -> u32 {
         if channel < 8 {
             self.store.length_on(channel)

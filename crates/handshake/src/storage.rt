@@ -33,7 +33,8 @@ pub trait Storage {
     fn free_on(&self, channel: u8) -> u32
         ensures { result ≡ free self.now channel };
 
-    // The byte n times more on a channel, or as often as it has places.
+    // The byte n times more on a channel, or as often as it has places. The three are no value of their own: n is cut to the places
+    // on the way, and the pool has a record of the other two already.
     fn put(&mut self, channel: u8, n: u32, byte: u8)
         ensures grown { Grown channel (min n (free self.old channel)) byte (held self.old) (free self.old) (held self.new) (free self.new) }
         ensures memory { memory self.new ≡ rewritten (memory self.old) (length (held self.old channel)) channel (min n (free self.old channel)) byte };
