@@ -1,18 +1,14 @@
-// A handshake over any storage is an inserter.
+// A handshake over any storage that has a delay is an inserter.
 ghost use Rattle.std.specs.Prelude.{◌≡◌};
 ghost use Rattle.inserter.specs.Rules.{adds, Looked, Dropped};
 ghost use Rattle.handshake.specs.Seen.{seen, remembered};
 
-use super::faces::at_rest;
 use super::shaken::Handshake;
-use super::storage::Storage;
-use cell::cells::Cell;
-use cell::cursor::Cursor;
+use super::storage::Delayed;
 use cell::lines::{Answer, PeriphLines, Shown};
-use inserter::front::Rule;
 use inserter::interface::Inserter;
 
-impl<S: Storage> Inserter for Handshake<'_, S> {
+impl<S: Delayed> Inserter for Handshake<'_, S> {
     const DELAY: u8 = S::DELAY;
 
     ghost delay = { S.delay };
@@ -30,49 +26,25 @@ impl<S: Storage> Inserter for Handshake<'_, S> {
         ensures looked { Looked S.delay (seen S.held S.free self.old) shown.lines shown.byte (seen S.held S.free self.new) result }
         ensures memory { S.memory self.new.store ≡ remembered S.rewritten (adds (seen S.held S.free self.old) shown.lines) (S.memory self.old.store) (seen S.held S.free self.old) shown.byte }
     {
-        let rule = self.rule(shown.lines);
-        let front = self.front_after(rule);
-        // the two rules that do more than change the front
-        match rule {
-            Rule::Take => self.read(Cell::from(shown)),
-            Rule::Withdraw => self.withdraw(),
-            _ => {}
-        }
-        self.front = front;
-        self.answer()
+        self.look_with(S::named_delay(), shown)
     }
 
     fn drop_cable(&mut self) -> PeriphLines
         ensures dropped { Dropped S.delay (seen S.held S.free self.old) (seen S.held S.free self.new) result }
         ensures memory { S.memory self.new.store ≡ S.memory self.old.store }
     {
-        self.cursor = Cursor::start();
-        self.front = at_rest(S::named_delay());
-        self.lines()
+        self.drop_with(S::named_delay())
     }
 
-    // A question may be asked of any number, so each asks whether it is a channel; a parameter that knew it would ask more of callers.
     fn length(&self, channel: u8) -> u32 {
-        if channel < 8 {
-            self.store.length_on(channel)
-        } else {
-            0
-        }
+        self.length(channel)
     }
 
     fn byte_at(&self, channel: u8, place: u32) -> Option<u8> {
-        if channel < 8 {
-            self.store.byte_on(channel, place)
-        } else {
-            None
-        }
+        self.byte_at(channel, place)
     }
 
     fn free(&self, channel: u8) -> u32 {
-        if channel < 8 {
-            self.store.free_on(channel)
-        } else {
-            0
-        }
+        self.free(channel)
     }
 }

@@ -26,14 +26,14 @@ pub fn at_rest(delay: u8) -> Front
 impl<S: Storage> Handshake<'_, S> {
     // The front after a rule is carried out. Each rule has an arm, as it has a line in the rules, and no rule is a value that
     // somebody hands in, as a closure would be.
-    pub(crate) fn front_after(&self, rule: Rule) -> Front
-        ensures { result ≡ faced rule S.delay self.now.offers.now self.now.front }
+    pub(crate) fn front_after(&self, rule: Rule, delay: u8) -> Front
+        ensures { result ≡ faced rule delay self.now.offers.now self.now.front }
     {
         let front = self.front;
         match rule {
             Rule::TurnForward => Front {
                 patience: front.patience,
-                ..at_rest(S::named_delay())
+                ..at_rest(delay)
             },
             Rule::TurnReverse => Front {
                 way: Way::Reverse,
@@ -42,7 +42,7 @@ impl<S: Storage> Handshake<'_, S> {
             },
             Rule::Acknowledge if front.patience == 0 => Front {
                 ack: true,
-                patience: S::named_delay(),
+                patience: delay,
                 ..front
             },
             Rule::Acknowledge => Front {

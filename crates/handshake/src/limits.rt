@@ -6,9 +6,16 @@ use cell::cells::Cell;
 
 const OFFER_LIMIT: usize = 65_535;
 
+// The most cells that may be on offer.
+pub fn most_offers() -> usize
+    ensures { result ≡ offer_limit }
+{
+    OFFER_LIMIT
+}
+
 // Whether a make may offer so many cells.
 pub fn may_offer(offers: &[Cell]) -> bool
     ensures { result ≡ nat_le (length offers.now) offer_limit }
 {
-    offers.len() <= OFFER_LIMIT
+    offers.len() <= most_offers()
 }

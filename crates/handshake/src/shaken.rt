@@ -2,27 +2,28 @@
 ghost use Rattle.std.specs.Prelude.{◌≡◌, true};
 ghost use Rattle.cell.specs.Reading.{start};
 ghost use Rattle.inserter.specs.Meaning.{resting};
-ghost use Rattle.inserter.specs.Rules.{fits_as};
+ghost use Rattle.inserter.specs.Rules.{fits_as, adds, Looked, Dropped};
 ghost use Rattle.handshake.specs.Seen.{seen, Read, remembered, stores, withdrawn};
 
 use super::faces::at_rest;
-use super::storage::Storage;
+use super::storage::{Delayed, Storage};
 use cell::cells::Cell;
 use cell::cursor::Cursor;
-use inserter::front::Front;
+use cell::lines::{Answer, PeriphLines, Shown};
+use inserter::front::{Front, Rule};
 
 // Clauses say by `seen S.held S.free` what it means: a Model cannot, since a meaning holds functions, and the interface's
 // `meaning`, named by a quote, is longer.
 #[derive(Drop)]
 pub struct Handshake<'c, S> {
-    pub(crate) store: S,
+    pub store: S,
     // the cells still on offer
-    pub(crate) offers: &'c [Cell],
-    pub(crate) cursor: Cursor,
-    pub(crate) front: Front,
+    pub offers: &'c [Cell],
+    pub cursor: Cursor,
+    pub front: Front,
 }
 
-impl<'c, S: Storage> Handshake<'c, S> {
+impl<'c, S: Delayed> Handshake<'c, S> {
     // A new make over a storage, offering these cells.
     pub fn new(store: S, offers: &'c [Cell]) -> Handshake<'c, S>
         ensures store { result.store ≡ store }
@@ -41,7 +42,7 @@ impl<'c, S: Storage> Handshake<'c, S> {
 
 impl<S: Storage> Handshake<'_, S> {
     // A cell that fits joins the reading.
-    pub(crate) fn read(&mut self, cell: Cell)
+    fn read(&mut self, cell: Cell)
         requires { fits_as cell.tag (seen S.held S.free self.old) ≡ true }
         ensures read { Read cell (seen S.held S.free self.old) (seen S.held S.free self.new) }
         ensures memory { S.memory self.new.store ≡ remembered S.rewritten (stores self.old.cursor cell) (S.memory self.old.store) (seen S.held S.free self.old) cell.byte }
@@ -54,12 +55,40 @@ impl<S: Storage> Handshake<'_, S> {
     }
 
     // The first cell on offer is no longer on offer.
-    pub(crate) fn withdraw(&mut self)
+    fn withdraw(&mut self)
         ensures state { seen S.held S.free self.new ≡ withdrawn (seen S.held S.free self.old) }
         ensures memory { S.memory self.new.store ≡ S.memory self.old.store }
     {
         if let [_, left @ ..] = self.offers {
             self.offers = left;
         }
+    }
+
+    // A look, by whatever delay: the first rule that applies is carried out. Of the memory, the look writes the bytes that it
+    // adds, and nothing else.
+    pub fn look_with(&mut self, delay: u8, shown: Shown) -> Answer
+        ensures looked { Looked delay (seen S.held S.free self.old) shown.lines shown.byte (seen S.held S.free self.new) result }
+        ensures memory { S.memory self.new.store ≡ remembered S.rewritten (adds (seen S.held S.free self.old) shown.lines) (S.memory self.old.store) (seen S.held S.free self.old) shown.byte }
+    {
+        let rule = self.rule(shown.lines);
+        let front = self.front_after(rule, delay);
+        // the two rules that do more than change the front
+        match rule {
+            Rule::Take => self.read(Cell::from(shown)),
+            Rule::Withdraw => self.withdraw(),
+            _ => {}
+        }
+        self.front = front;
+        self.answer()
+    }
+
+    // The cable is dropped, with this delay from now on: bytes, offers and memory stay.
+    pub fn drop_with(&mut self, delay: u8) -> PeriphLines
+        ensures dropped { Dropped delay (seen S.held S.free self.old) (seen S.held S.free self.new) result }
+        ensures memory { S.memory self.new.store ≡ S.memory self.old.store }
+    {
+        self.cursor = Cursor::start();
+        self.front = at_rest(delay);
+        self.lines()
     }
 }

@@ -1,14 +1,9 @@
-// What the handshake needs of a make: where its bytes are kept, and its delay.
+// What the handshake needs of a make: where its bytes are kept. A make that is an inserter by itself names its delay too.
 ghost use Rattle.std.specs.Prelude.{◌≡◌, ℕ, min, List, length};
 ghost use Rattle.inserter.specs.Meaning.{at_place};
 ghost use Rattle.handshake.specs.Storage.{Grown};
 
 pub trait Storage {
-    // The fixed delay of the make: how many looks it lets pass before it acknowledges a cell.
-    const DELAY: u8;
-
-    ghost delay: { ℕ };
-
     ghost held: { Self → ℕ → List ℕ };
 
     ghost free: { Self → ℕ → ℕ };
@@ -19,10 +14,6 @@ pub trait Storage {
     ghost memory: { Self → Memory };
 
     ghost rewritten: { Memory → ℕ → ℕ → ℕ → ℕ → Memory };
-
-    // The delay again, as the interface of inserters has it.
-    fn named_delay() -> u8
-        ensures { result ≡ delay };
 
     fn length_on(&self, channel: u8) -> u32
         ensures { result ≡ length (held self.now channel) };
@@ -38,4 +29,15 @@ pub trait Storage {
     fn put(&mut self, channel: u8, n: u32, byte: u8)
         ensures grown { Grown channel (min n (free self.old channel)) byte (held self.old) (free self.old) (held self.new) (free self.new) }
         ensures memory { memory self.new ≡ rewritten (memory self.old) (length (held self.old channel)) channel (min n (free self.old channel)) byte };
+}
+
+// A storage whose make has a fixed delay: how many looks it lets pass before it acknowledges a cell.
+pub trait Delayed: Storage {
+    const DELAY: u8;
+
+    ghost delay: { ℕ };
+
+    // The delay again, as the interface of inserters has it.
+    fn named_delay() -> u8
+        ensures { result ≡ delay };
 }

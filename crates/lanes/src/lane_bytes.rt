@@ -3,7 +3,7 @@ ghost use Rattle.std.specs.Prelude.{ℕ, ◌/◌, ◌<◌, ◌≤◌, length, sl
 ghost use Rattle.lanes.specs.Lanes.{lane_limit};
 
 use handshake::spread::spread;
-use handshake::storage::Storage;
+use handshake::storage::{Delayed, Storage};
 
 // The most places that a lane may have.
 pub(crate) const LANE_LIMIT: usize = 65_535;
@@ -75,10 +75,6 @@ impl Storage for LaneBytes<'_> {
     ghost use Rattle.lanes.specs.Lanes.{laned};
     ghost use Rattle.lanes.specs.Kept.{held_by, free_in};
 
-    const DELAY: u8 = 0;
-
-    ghost delay = { 0 };
-
     ghost held = { held_by };
 
     ghost free = { free_in };
@@ -88,12 +84,6 @@ impl Storage for LaneBytes<'_> {
     ghost memory = { λ s. s.bytes.now };
 
     ghost rewritten = { laned };
-
-    fn named_delay() -> u8
-        ensures { result ≡ 0 }
-    {
-        Self::DELAY
-    }
 
     fn length_on(&self, channel: u8) -> u32 {
         self.lane(channel).len() as u32
@@ -116,5 +106,20 @@ impl Storage for LaneBytes<'_> {
         if channel < 8 {
             self.append(channel, n.min(places), byte);
         }
+    }
+}
+
+// The delay of every make over such a storage.
+impl Delayed for LaneBytes<'_> {
+    ghost use Rattle.std.specs.Prelude.{◌≡◌};
+
+    const DELAY: u8 = 0;
+
+    ghost delay = { 0 };
+
+    fn named_delay() -> u8
+        ensures { result ≡ 0 }
+    {
+        Self::DELAY
     }
 }

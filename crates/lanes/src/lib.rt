@@ -3,20 +3,68 @@
 
 ghost use Rattle.std.specs.Prelude.{◌≡◌, ℕ, ◌/◌, ◌<◌, length, Ok};
 ghost use Rattle.inserter.specs.Meaning.{New};
+ghost use Rattle.inserter.specs.Rules.{Looked, Dropped};
 ghost use Rattle.lanes.specs.Making.{lanes_answer};
-ghost use Rattle.lanes.specs.LanesMeaning.{means, memory};
+ghost use Rattle.lanes.specs.LanesMeaning.{means, memory, memory_after};
 
 mod lane_bytes;
 
 use cell::cells::Cell;
+use cell::lines::{Answer, PeriphLines, Shown};
 use handshake::limits::may_offer;
 use handshake::shaken::Handshake;
+use inserter::interface::Inserter;
 use lane_bytes::LANE_LIMIT;
 pub use lane_bytes::LaneBytes;
 use refusal::Refusal;
 
-// Lanes are the handshake over such bytes: what they do is said there, once for every make.
-pub type Lanes<'a, 'c> = Handshake<'c, LaneBytes<'a>>;
+// Lanes are the handshake over such bytes. They are a type of their own, for their delay: a constant of the impl over any storage is
+// known to no proof, and the one here is what the code runs by.
+#[derive(Drop)]
+pub struct Lanes<'a, 'c> {
+    shaken: Handshake<'c, LaneBytes<'a>>,
+}
+
+impl Inserter for Lanes<'_, '_> {
+    const DELAY: u8 = 0;
+
+    ghost delay = { 0 };
+
+    ghost meaning = { means };
+
+    fn named_delay() -> u8
+        ensures { result ≡ 0 }
+    {
+        Self::DELAY
+    }
+
+    // Of the memory, the look writes the bytes that it adds behind those of their lane, and nothing else.
+    fn look(&mut self, shown: Shown) -> Answer
+        ensures looked { Looked 0 (means self.old) shown.lines shown.byte (means self.new) result }
+        ensures memory { memory self.new ≡ memory_after (memory self.old) (means self.old) shown.lines shown.byte }
+    {
+        self.shaken.look_with(Self::DELAY, shown)
+    }
+
+    fn drop_cable(&mut self) -> PeriphLines
+        ensures dropped { Dropped 0 (means self.old) (means self.new) result }
+        ensures memory { memory self.new ≡ memory self.old }
+    {
+        self.shaken.drop_with(Self::DELAY)
+    }
+
+    fn length(&self, channel: u8) -> u32 {
+        self.shaken.length(channel)
+    }
+
+    fn byte_at(&self, channel: u8, place: u32) -> Option<u8> {
+        self.shaken.byte_at(channel, place)
+    }
+
+    fn free(&self, channel: u8) -> u32 {
+        self.shaken.free(channel)
+    }
+}
 
 // Whether lanes can be made of this memory, offering these cells: no making before the yes.
 pub fn may_use(bytes: &[u8], offers: &[Cell]) -> Result<(), Refusal>
@@ -42,5 +90,7 @@ pub fn over<'a, 'c>(bytes: &'a mut [u8], offers: &'c [Cell]) -> Lanes<'a, 'c>
         bytes,
         lens: [0; 8],
     };
-    Handshake::new(store, offers)
+    Lanes {
+        shaken: Handshake::new(store, offers),
+    }
 }

@@ -5,7 +5,7 @@ ghost use Rattle.pool.specs.Pool.{pool_limit};
 use super::by_channel::{counted, found};
 use super::record::Record;
 use handshake::spread::spread;
-use handshake::storage::Storage;
+use handshake::storage::{Delayed, Storage};
 
 // The most records that a pool may have.
 pub(crate) const POOL_LIMIT: usize = 65_535;
@@ -53,10 +53,6 @@ impl Storage for PoolRecords<'_> {
     ghost use Rattle.pool.specs.Pool.{Stored, stored_after};
     ghost use Rattle.pool.specs.Kept.{held_by, free_in, lent_to};
 
-    const DELAY: u8 = 2;
-
-    ghost delay = { 2 };
-
     ghost held = { held_by };
 
     ghost free = { free_in };
@@ -66,12 +62,6 @@ impl Storage for PoolRecords<'_> {
     ghost memory = { lent_to };
 
     ghost rewritten = { stored_after };
-
-    fn named_delay() -> u8
-        ensures { result ≡ 2 }
-    {
-        Self::DELAY
-    }
 
     fn length_on(&self, channel: u8) -> u32 {
         counted(self.in_use(), channel) as u32
@@ -87,5 +77,20 @@ impl Storage for PoolRecords<'_> {
 
     fn put(&mut self, channel: u8, n: u32, byte: u8) {
         self.append(channel, (n as usize).min(self.left()), byte);
+    }
+}
+
+// The delay of every make over such a storage.
+impl Delayed for PoolRecords<'_> {
+    ghost use Rattle.std.specs.Prelude.{◌≡◌};
+
+    const DELAY: u8 = 2;
+
+    ghost delay = { 2 };
+
+    fn named_delay() -> u8
+        ensures { result ≡ 2 }
+    {
+        Self::DELAY
     }
 }
