@@ -18,41 +18,53 @@ pub(crate) fn print_setup(rt: &HostRuntime, setup: Setup) -> io::Result<()> {
     Ok(())
 }
 
-// Each line that was not sent, with its number and why, and then how many there were of each kind.
-pub(crate) fn print_lines(rt: &HostRuntime, told: &[Outcome]) -> io::Result<()> {
-    for (before, outcome) in told.iter().enumerate() {
-        if let Err(why) = outcome {
-            println!(rt; "line {}: {why}", before + 1)?;
-        }
-    }
-    let lines = told.len();
-    let sent = told
-        .iter()
-        .filter(|outcome| matches!(outcome, Ok(Some(_))))
-        .count();
-    let unsent = told
-        .iter()
-        .filter(|outcome| matches!(outcome, Err(NotSent::Undelivered(_))))
-        .count();
-    let bad = told
-        .iter()
-        .filter(|outcome| matches!(outcome, Err(NotSent::Bad(_))))
-        .count();
-    println!(rt; "{lines} lines: {sent} captions sent, {unsent} not sent, {bad} bad")?;
-    let (cells, looks) = taken_in(told);
-    println!(rt; "{cells} cells taken in {looks} looks")
+// What became of all lines, counted.
+#[derive(Clone, Copy, Default)]
+struct Counts {
+    sent: usize,
+    unsent: usize,
+    bad: usize,
+    cells: usize,
+    looks: u128,
 }
 
-// How many cells were taken, and in how many looks.
-fn taken_in(told: &[Outcome]) -> (usize, u128) {
-    told.iter()
-        .filter_map(|outcome| outcome.ok().flatten())
-        .fold((0usize, 0u128), |(cells, looks), played| {
-            (
-                cells.saturating_add(played.taken),
-                looks.saturating_add(played.looks),
-            )
-        })
+impl Counts {
+    // One line more.
+    fn count(&mut self, outcome: &Outcome) {
+        match outcome {
+            Ok(played) => {
+                self.sent = self.sent.saturating_add(1);
+                self.cells = self.cells.saturating_add(played.taken);
+                self.looks = self.looks.saturating_add(played.looks);
+            }
+            Err(NotSent::Empty) => {}
+            Err(NotSent::Undelivered(_)) => self.unsent = self.unsent.saturating_add(1),
+            Err(NotSent::Bad(_)) => self.bad = self.bad.saturating_add(1),
+        }
+    }
+}
+
+// Each line that was not sent, with its number and why, and then how many there were of each kind. All is told in one pass, since a
+// long script has more outcomes than a cache holds.
+pub(crate) fn print_lines(rt: &HostRuntime, told: &[Outcome]) -> io::Result<()> {
+    let mut counts = Counts::default();
+    for (before, outcome) in told.iter().enumerate() {
+        counts.count(outcome);
+        match outcome {
+            Ok(_) | Err(NotSent::Empty) => {}
+            Err(why) => println!(rt; "line {}: {why}", before + 1)?,
+        }
+    }
+    let Counts {
+        sent,
+        unsent,
+        bad,
+        cells,
+        looks,
+    } = counts;
+    let lines = told.len();
+    println!(rt; "{lines} lines: {sent} captions sent, {unsent} not sent, {bad} bad")?;
+    println!(rt; "{cells} cells taken in {looks} looks")
 }
 
 // Each channel: how many bytes it holds and has room for, the bytes in hex, and as text.

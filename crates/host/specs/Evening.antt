@@ -1,5 +1,5 @@
 -- A whole script that is played to an inserter.
-use Rattle.std.specs.Prelude.{◌≡◌, ℕ, ◌<◌, cond, List, [], ◌∷◌, ◌++◌, length, Some, None, Ok, Err, Result, ◌==◌}
+use Rattle.std.specs.Prelude.{◌≡◌, ℕ, ◌<◌, cond, List, [], ◌∷◌, ◌++◌, length, Ok, Err, Result, ◌==◌}
 use Rattle.inserter.specs.Meaning.{Meaning}
 use Rattle.script.specs.declared.lines.BadLine.{BadLine}
 use Rattle.script.specs.Lines.{first_line, later_lines, parsed}
@@ -18,8 +18,7 @@ text_for (Err e) k = []
 -- what a line puts on channel k: its text where it was sent there
 abbrev pub line_for : List ℕ → Outcome → ℕ → List ℕ
 line_for line (Err e) k = []
-line_for line (Ok None) k = []
-line_for line (Ok (Some p)) k = text_for (parsed line) k
+line_for line (Ok p) k = text_for (parsed line) k
 
 abbrev pub texts_for : List ℕ → List Outcome → ℕ → List ℕ
 texts_for script [] k = []

@@ -14,6 +14,8 @@ use std::fmt;
 // Why nothing was sent for a line. The inserter is then as it was.
 #[derive(Clone, Copy, PartialEq, Eq, Debug)]
 pub enum NotSent {
+    // the line is empty, and has nothing to send
+    Empty,
     // the line is no caption
     Bad(BadLine),
     // it is one that was not delivered
@@ -23,6 +25,7 @@ pub enum NotSent {
 impl fmt::Display for NotSent {
     fn fmt<W: fmt::Write>(&self, f: &mut fmt::Formatter<W>) -> fmt::Result {
         match self {
+            NotSent::Empty => f.write_str("the line is empty"),
             NotSent::Bad(why) => write!(f, "{why}"),
             NotSent::Undelivered(why) => write!(f, "{why}"),
         }
@@ -47,16 +50,16 @@ impl From<Undelivered> for NotSent {
     }
 }
 
-// What became of a line. An empty one has nothing to send.
-pub type Outcome = Result<Option<Played>, NotSent>;
+// What became of a line. There is one for each line of a script, so that a line with nothing to send is one more reason, and no
+// Option: each type within another has a tag of its own, and Played makes one as long as sixteen bytes.
+pub type Outcome = Result<Played, NotSent>;
 
 // Plays one line to an inserter of any make, which stays as it was unless a caption is sent.
 pub fn play_line<I: Inserter>(heap: Global, inserter: &mut I, line: &[u8]) -> Outcome
     ensures { Lined I.delay line.now (I.meaning inserter.old) result (I.meaning inserter.new) }
 {
     if line.is_empty() {
-        return Ok(None);
+        return Err(NotSent::Empty);
     }
-    let played = deliver(heap, inserter, caption_of(line)?)?;
-    Ok(Some(played))
+    Ok(deliver(heap, inserter, caption_of(line)?)?)
 }
