@@ -1,30 +1,16 @@
 -- Bytes spelt out, and read place by place.
-use Rattle.std.proofs.Common.{◌≡◌, ℕ, zero, suc, ◌+◌, ◌<◌, ltb, List, [], ◌∷◌, ◌++◌, length, map, Some, sym, refl, ap, ◌∙◌, append_assoc, length-append, lit<, arith}
-use Rattle.std.specs.List.{filter_map, range_with_len, cons_option}
+use Rattle.std.proofs.Common.{◌≡◌, ℕ, zero, suc, ◌<◌, ltb, List, [], ◌∷◌, length, get_or, map, Some, lit<, arith}
 use Rattle.std.specs.Str.{IsAscii}
 use Rattle.std.proofs.lemmas.Bool.{lt-ltb, cond-true}
 use Rattle.std.proofs.lemmas.Bool.Decides.{nat_tests}
 use Rattle.std.proofs.lemmas.Str.{encodes-IsAscii}
-use Rattle.std.proofs.Math.Seq.{get_or-append_seam}
 use Rattle.std.proofs.Math.Utf8.{encodes}
 use Rattle.inserter.specs.Meaning.{at_place}
 use Rattle.listing.specs.Shown.{letter, text_of}
 
-place_after : (before : List ℕ) (x : ℕ) (xs : List ℕ) → at_place (before ++ x ∷ xs) (length before) ≡ Some x
-place_after before x xs =
-    cond-true (ltb (length before) (length (before ++ x ∷ xs))) _ _ (lt-ltb (length before) (length (before ++ x ∷ xs)) (omega (arith, length-append before (x ∷ xs))))
-    ∙ ap Some (get_or-append_seam before x xs 0)
-
--- each place in use gives its byte
-places : (n : ℕ) (before xs : List ℕ) → n ≡ length before → filter_map (λ i. at_place (before ++ xs) i) (range_with_len n (length xs)) ≡ xs
-places n before [] e = refl
-places n before (x ∷ xs) e =
-    ap (λ o. cons_option o (filter_map (λ i. at_place (before ++ x ∷ xs) i) (range_with_len (n + 1) (length xs)))) (ap (at_place (before ++ x ∷ xs)) e ∙ place_after before x xs)
-    ∙ ap (λ ys. x ∷ filter_map (λ i. at_place ys i) (range_with_len (n + 1) (length xs))) (sym (append_assoc before (x ∷ []) xs))
-    ∙ ap (λ ys. x ∷ ys) (places (n + 1) (before ++ x ∷ []) xs (omega (arith, length-append before (x ∷ []))))
-
-pub all_places : (xs : List ℕ) → filter_map (λ i. at_place xs i) (range_with_len 0 (length xs)) ≡ xs
-all_places xs = places 0 [] xs refl
+-- the byte at a place that is in use
+pub byte_there : (xs : List ℕ) (i : ℕ) → i < length xs → at_place xs i ≡ Some (get_or xs i 0)
+byte_there xs i h = cond-true (ltb i (length xs)) _ _ (lt-ltb i (length xs) h)
 
 letter_small : (b : ℕ) → letter b < 128
 letter_small b = grind (arith, nat_tests)

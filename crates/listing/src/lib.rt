@@ -1,33 +1,62 @@
 // What a channel holds, for people to read.
 #![tactic(auto)]
 
-ghost use Rattle.std.specs.Prelude.{◌≡◌, ◌++◌, IfOk, OnOk, string_bytes};
+ghost use Rattle.std.specs.Prelude.{◌≡◌, ◌<◌, ◌++◌, IfOk, OnOk, string_bytes};
+ghost use Rattle.std.specs.Option.{option_to_list};
 ghost use Rattle.inserter.specs.Meaning.{at_place, held_on};
-ghost use Rattle.listing.specs.Shown.{hex_digits, hex_of, letter, text_of};
+ghost use Rattle.listing.specs.Shown.{digit, hex_digits, hex_of, letter, text_of};
 
 use inserter::interface::Inserter;
 use std::alloc::{AllocError, Global};
-use std::fmt::Write;
 
-// The bytes that a channel holds, in order.
+// The byte at a place of a channel, if one is there, at the end of the list.
+fn push_at<I: Inserter>(
+    bytes: &mut Vec<u8>,
+    inserter: &I,
+    channel: u8,
+    place: u32,
+) -> Result<(), AllocError>
+    ensures { OnOk result (bytes.new.items ≡ bytes.old.items ++ option_to_list (at_place (held_on (I.meaning inserter.now) channel) place)) }
+{
+    if let Some(byte) = inserter.byte_at(channel, place) {
+        bytes.push(byte)?;
+    }
+    Ok(())
+}
+
+// The bytes that a channel holds, in order. They are pushed one by one: collected from a `filter_map` over the places they take
+// several times as long.
+#[tactic(auto, using(std::proofs::lemmas::List::take_more, crate::proofs::Spelling::byte_there))]
 pub fn held<I: Inserter>(heap: Global, inserter: &I, channel: u8) -> Result<Vec<u8>, AllocError>
     ensures { IfOk result (λ v. v.items ≡ held_on (I.meaning inserter.now) channel) }
 {
-    (0..inserter.length(channel))
-        .filter_map(
-            |place|
-                ensures { result ≡ at_place (held_on (I.meaning inserter.entry.now) channel) place }
-            { inserter.byte_at(channel, place) },
-        )
-        .collect(heap)
+    let mut bytes = Vec::new(heap);
+    for place in 0..inserter.length(channel) {
+        push_at(&mut bytes, inserter, channel, place)?;
+    }
+    Ok(bytes)
 }
 
-// Two hexadecimal digits at the end of a text.
-#[tactic(auto, using(std::proofs::lemmas::Fmt::hex_byte))]
+// A hexadecimal digit, in capitals.
+fn digit(n: u8) -> char
+    requires { n < 16 }
+    ensures is { result ≡ digit n }
+    ensures ascii { result < 128 }
+{
+    if n < 10 {
+        (b'0' + n) as char
+    } else {
+        (b'A' + (n - 10)) as char
+    }
+}
+
+// Two hexadecimal digits at the end of a text. They are pushed, since a `write!` of each byte takes many times as long.
 fn push_hex(shown: &mut String, byte: u8) -> Result<(), AllocError>
     ensures { OnOk result (string_bytes shown.new ≡ string_bytes shown.old ++ hex_digits byte) }
 {
-    write!(shown, "{byte:02X}")
+    shown.push(digit(byte / 16))?;
+    shown.push(digit(byte % 16))?;
+    Ok(())
 }
 
 // Bytes in hexadecimal, two digits each, without blanks.
