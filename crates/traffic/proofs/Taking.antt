@@ -11,8 +11,11 @@ pub uncounted_within : (q : List Cell) → length (uncounted q) ≤ length q
 uncounted_within [] = le_refl 0
 uncounted_within (c ∷ q) = grind (arith, uncounted_within q)
 
+pub room_left : (s : Stage) (q q' : List Cell) → length q' ≤ length q → asks_with_room s q ≡ true → asks_with_room s q' ≡ true
+room_left Idle q q' within room = refl
+room_left (Low c) q q' within room = refl
+room_left (High c) q q' within room = refl
+room_left Asked q q' within room = grind (arith, nat_tests)
+
 pub room_uncounted : (s : Stage) (q : List Cell) → asks_with_room s q ≡ true → asks_with_room s (uncounted q) ≡ true
-room_uncounted Idle q room = refl
-room_uncounted (Low c) q room = refl
-room_uncounted (High c) q room = refl
-room_uncounted Asked q room = grind (arith, nat_tests, uncounted_within q)
+room_uncounted s q room = room_left s q (uncounted q) (uncounted_within q) room

@@ -13,18 +13,18 @@ use std::marker::Model;
 
 #[derive(Drop)]
 pub struct Traffic {
-    pub(crate) mode: Mode,
-    pub(crate) direction: Direction,
+    pub mode: Mode,
+    pub direction: Direction,
     // bit 2 of DCR: nReverseRequest, in the modes that drive it
-    pub(crate) forward: bool,
-    pub(crate) queue: Queue,
-    pub(crate) stage: Stage,
+    pub forward: bool,
+    pub queue: Queue,
+    pub stage: Stage,
     // how many times more than once the first byte of the queue is still to be given out
-    pub(crate) waiting: u8,
+    pub waiting: u8,
     // the channel address last stored, 0 to 127, or none known
-    pub(crate) known: Option<u8>,
+    pub known: Option<u8>,
     // the far end's lines and byte as last answered
-    pub(crate) heard: Answer,
+    pub heard: Answer,
 }
 
 // Clauses see what is on its way. A cell is asked for only while cells come back, and only with a place for it.
