@@ -81,22 +81,64 @@ fn delays(rt: HostRuntime) {
     assert_eq!(rt; Patch::<Pool>::DELAY, 2);
 }
 
+// what each refusal says first: its number, and what is not so
+const WORDS: [(Refusal, &str); 15] = [
+    (Refusal::Address, "refusal 1: no register has this address"),
+    (
+        Refusal::Access,
+        "refusal 2: this register cannot be accessed so in this mode",
+    ),
+    (
+        Refusal::Mode,
+        "refusal 3: the port has no such mode: it has 000, 001, 011, 110 and 111",
+    ),
+    (
+        Refusal::ControlBits,
+        "refusal 4: bits 0, 1, 3, 6 and 7 of DCR have to be written as 0",
+    ),
+    (
+        Refusal::Stage,
+        "refusal 5: ECR and DCR are written only while no cell is on its way",
+    ),
+    (
+        Refusal::Request,
+        "refusal 6: no request for this DMA cycle stands",
+    ),
+    (Refusal::Channel, "refusal 7: turns are for channels 0 to 7"),
+    (Refusal::TurnTaken, "refusal 8: the channel's turn is out"),
+    (
+        Refusal::NoTurn,
+        "refusal 9: the channel's turn is not out at this port",
+    ),
+    (
+        Refusal::Repeats,
+        "refusal 10: a send repeats its byte 1 to 128 times",
+    ),
+    (
+        Refusal::NotSending,
+        "refusal 11: sends want mode 011 with direction 0",
+    ),
+    (
+        Refusal::NoRoom,
+        "refusal 12: the queue has too few free places for the send",
+    ),
+    (
+        Refusal::Memory,
+        "refusal 13: each lane or pool has 1 to 65,535 places",
+    ),
+    (
+        Refusal::EntryRange,
+        "refusal 14: an entry of the patch table is 8 or more",
+    ),
+    (
+        Refusal::EntryTwice,
+        "refusal 15: two entries of the patch table are alike",
+    ),
+];
+
 #[test]
 fn refusals_in_words(rt: HostRuntime) -> Result<(), Fail> {
-    for (refusal, words) in [
-        (
-            Refusal::Memory,
-            "refusal 13: each lane or pool has 1 to 65,535 places",
-        ),
-        (
-            Refusal::EntryRange,
-            "refusal 14: an entry of the patch table is 8 or more",
-        ),
-        (
-            Refusal::EntryTwice,
-            "refusal 15: two entries of the patch table are alike",
-        ),
-    ] {
+    for (refusal, words) in WORDS {
         let told = refusal.to_string(rt.alloc())?;
         assert!(rt; told.as_str().starts_with(words));
     }
