@@ -1,18 +1,7 @@
 -- A word's digits, read one after the other.
-use Rattle.std.proofs.Common.{◌≡◌, ℕ, zero, suc, ◌<◌, eqb, List, [], ◌∷◌, length, get_or, Some, None, Ok, Err, Result, sym, refl, ap, ◌∙◌, arith}
-use Rattle.std.specs.Result.{IfOk, IfErr, MatchResult, result_ok}
-use Rattle.std.specs.Array.{IsWholeChunk}
+use Rattle.std.proofs.Common.{◌≡◌, ℕ, zero, suc, ◌<◌, eqb, List, [], ◌∷◌, length, get_or, Some, refl, ◌∙◌, arith}
 use Rattle.std.proofs.lemmas.Bool.{cond-true, eq-eqb}
 use Rattle.script.specs.Digits.{digit_of, digits_of, eight_digits}
-
--- a letter of the word is no digit
-abbrev pub Spoilt : List ℕ → Type 0
-Spoilt word = (i : ℕ) × (i < length word) × (digit_of (get_or word i 0) ≡ None)
-
-none_at : (word : List ℕ) (i : ℕ) → i < length word → digit_of (get_or word i 0) ≡ None → digits_of word ≡ None
-none_at [] i h e = absurd (omega arith)
-none_at (b ∷ bs) zero h e = grind arith
-none_at (b ∷ bs) (suc i) h e = grind (arith, none_at bs i (omega arith) e)
 
 -- the letters of the word have these values
 abbrev pub Read : List ℕ → List ℕ → Type 0
@@ -24,18 +13,22 @@ all_read [] (v ∷ vs) n r = absurd (omega arith)
 all_read (b ∷ bs) [] n r = absurd (omega arith)
 all_read (b ∷ bs) (v ∷ vs) n r = grind (arith, r 0 (omega arith), all_read bs vs (omega arith) (λ j l. r (suc j) (omega arith)))
 
--- what a try at each letter of a word gives
-pub tried : (word : List ℕ) (r : Result (List ℕ) (Unit {0})) (P : List ℕ → Type 0) (Q : Unit {0} → Type 0) → IfOk r P → IfErr r Q → ((values : List ℕ) → P values → (length word ≡ length values) × Read word values) → ((e : Unit {0}) → Q e → Spoilt word) → result_ok r ≡ digits_of word
-tried word (Ok values) P Q ok err read spoilt =
-    let h = read values ok in
-    sym (all_read word values h.0 h.1)
-tried word (Err e) P Q ok err read spoilt =
-    let h = spoilt e err in
-    sym (none_at word h.0 h.1 h.2)
+module _ (word : List ℕ) (a b c d e f g h : ℕ) (long : length word ≡ 8)
+    (at_0 : digit_of (get_or word 0 0) ≡ Some a) (at_1 : digit_of (get_or word 1 0) ≡ Some b)
+    (at_2 : digit_of (get_or word 2 0) ≡ Some c) (at_3 : digit_of (get_or word 3 0) ≡ Some d)
+    (at_4 : digit_of (get_or word 4 0) ≡ Some e) (at_5 : digit_of (get_or word 5 0) ≡ Some f)
+    (at_6 : digit_of (get_or word 6 0) ≡ Some g) (at_7 : digit_of (get_or word 7 0) ≡ Some h) where
+  each : Read word (a ∷ b ∷ c ∷ d ∷ e ∷ f ∷ g ∷ h ∷ [])
+  each zero l = at_0
+  each (suc zero) l = at_1
+  each (suc (suc zero)) l = at_2
+  each (suc (suc (suc zero))) l = at_3
+  each (suc (suc (suc (suc zero)))) l = at_4
+  each (suc (suc (suc (suc (suc zero))))) l = at_5
+  each (suc (suc (suc (suc (suc (suc zero)))))) l = at_6
+  each (suc (suc (suc (suc (suc (suc (suc zero))))))) l = at_7
+  each (suc (suc (suc (suc (suc (suc (suc (suc i)))))))) l = absurd (omega (arith, long, l))
 
--- the eight letters that were taken from a word
-pub whole : {E : Type 0} (word letters : List ℕ) (r : Result (List ℕ) E) (Q : E → Type 0) → Some letters ≡ result_ok r → MatchResult r (λ y. IsWholeChunk word y 8) Q → (length letters ≡ 8) × (digits_of letters ≡ eight_digits word)
-whole word letters (Ok y) Q e h =
-    let same : letters ≡ word = cc in
-    (ap length same ∙ h.long, ap digits_of same ∙ sym (cond-true (eqb (length word) 8) (digits_of word) _ (eq-eqb (length word) 8 h.long)))
-whole word letters (Err y) Q e h = absurd cc
+  -- a word of just eight letters, each read as a digit
+  pub eight_read : eight_digits word ≡ Some (a ∷ b ∷ c ∷ d ∷ e ∷ f ∷ g ∷ h ∷ [])
+  eight_read = cond-true (eqb (length word) 8) (digits_of word) _ (eq-eqb (length word) 8 long) ∙ all_read word (a ∷ b ∷ c ∷ d ∷ e ∷ f ∷ g ∷ h ∷ []) long each

@@ -16,6 +16,17 @@ pub fn digit(letter: u8) -> Option<u8>
 pub fn eight_digits(word: &[u8]) -> Option<[u8; 8]>
     ensures { result ≡ eight_digits word.now }
 {
-    let letters = <[u8; 8]>::try_from(word).ok()?;
-    letters.try_map(|letter| digit(letter).ok_or(())).ok()
+    match word {
+        [a, b, c, d, e, f, g, h] => Some([
+            digit(*a)?,
+            digit(*b)?,
+            digit(*c)?,
+            digit(*d)?,
+            digit(*e)?,
+            digit(*f)?,
+            digit(*g)?,
+            digit(*h)?,
+        ]),
+        _ => None,
+    }
 }
