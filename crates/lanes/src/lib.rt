@@ -19,7 +19,7 @@ pub use lane_bytes::LaneBytes;
 use refusal::Refusal;
 
 // Lanes are the handshake over such bytes. They are a type of their own, for their delay: a constant of the impl over any storage is
-// known to no proof, and the one here is what the code runs by.
+// known to no proof, and the one here is what looks and drops run by.
 #[derive(Drop)]
 pub struct Lanes<'a, 'c> {
     shaken: Handshake<'c, LaneBytes<'a>>,

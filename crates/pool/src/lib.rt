@@ -22,7 +22,7 @@ pub use records::PoolRecords;
 use refusal::Refusal;
 
 // A pool is the handshake over such records. It is a type of its own, for its delay: a constant of the impl over any storage is known
-// to no proof, and the one here is what the code runs by.
+// to no proof, and the one here is what looks and drops run by.
 #[derive(Drop)]
 pub struct Pool<'a, 'c> {
     shaken: Handshake<'c, PoolRecords<'a>>,

@@ -1,5 +1,5 @@
 -- A word's digits, read one after the other.
-use Rattle.std.proofs.Common.{◌≡◌, ℕ, zero, suc, ◌<◌, eqb, List, [], ◌∷◌, length, get_or, Some, refl, ◌∙◌, arith}
+use Rattle.std.proofs.Common.{◌≡◌, ℕ, zero, suc, ◌<◌, eqb, List, [], ◌∷◌, length, get_or, Some, None, refl, ◌∙◌, arith}
 use Rattle.std.proofs.lemmas.Bool.{cond-true, eq-eqb}
 use Rattle.script.specs.Digits.{digit_of, digits_of, eight_digits}
 
@@ -12,6 +12,12 @@ all_read [] [] n r = refl
 all_read [] (v ∷ vs) n r = absurd (omega arith)
 all_read (b ∷ bs) [] n r = absurd (omega arith)
 all_read (b ∷ bs) (v ∷ vs) n r = grind (arith, r 0 (omega arith), all_read bs vs (omega arith) (λ j l. r (suc j) (omega arith)))
+
+-- a letter that is no digit spoils the word
+pub none_at : (word : List ℕ) (i : ℕ) → i < length word → digit_of (get_or word i 0) ≡ None → digits_of word ≡ None
+none_at [] i h e = absurd (omega arith)
+none_at (b ∷ bs) zero h e = grind arith
+none_at (b ∷ bs) (suc i) h e = grind (arith, none_at bs i (omega arith) e)
 
 module _ (word : List ℕ) (a b c d e f g h : ℕ) (long : length word ≡ 8)
     (at_0 : digit_of (get_or word 0 0) ≡ Some a) (at_1 : digit_of (get_or word 1 0) ≡ Some b)

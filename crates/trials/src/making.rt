@@ -1,10 +1,11 @@
 // Which memory lanes and pools are made of, and what a refusal says.
 use cell::cells::{Cell, Tag};
+use handshake::shaken::Handshake;
 use inserter::interface::Inserter;
-use lanes::Lanes;
+use lanes::{LaneBytes, Lanes};
 use patch::patch::Patch;
-use pool::Pool;
 use pool::record::Record;
+use pool::{Pool, PoolRecords};
 use refusal::Refusal;
 use std::alloc::Global;
 use std::test::Fail;
@@ -73,12 +74,14 @@ fn memory_and_offers(rt: HostRuntime) -> Result<(), Fail> {
     ask(rt.alloc(), &POOLS, record, pool::may_use)
 }
 
-// The constants of the interface, which the contracts speak of through `named_delay`.
+// The constants of the interface, which the contracts speak of through `named_delay`. Those of lanes and a pool are proved too.
 #[test]
 fn delays(rt: HostRuntime) {
     assert_eq!(rt; Lanes::DELAY, 0);
     assert_eq!(rt; Pool::DELAY, 2);
     assert_eq!(rt; Patch::<Pool>::DELAY, 2);
+    assert_eq!(rt; Handshake::<LaneBytes>::DELAY, 0);
+    assert_eq!(rt; Handshake::<PoolRecords>::DELAY, 2);
 }
 
 // what each refusal says first: its number, and what is not so
