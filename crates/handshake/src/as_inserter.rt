@@ -36,6 +36,7 @@ impl<S: Delayed> Inserter for Handshake<'_, S> {
         self.drop_with(S::named_delay())
     }
 
+    // The questions are the handshake's own, which a call by their names means before these.
     fn length(&self, channel: u8) -> u32 {
         self.length(channel)
     }

@@ -64,8 +64,8 @@ impl<S: Storage> Handshake<'_, S> {
         }
     }
 
-    // A look, by whatever delay: the first rule that applies is carried out. Of the memory, the look writes the bytes that it
-    // adds, and nothing else.
+    // A look, by a delay that may be another at each: the first rule that applies is carried out. Of the memory, the look writes
+    // the bytes that it adds, and nothing else.
     pub fn look_with(&mut self, delay: u8, shown: Shown) -> Answer
         ensures looked { Looked delay (seen S.held S.free self.old) shown.lines shown.byte (seen S.held S.free self.new) result }
         ensures memory { S.memory self.new.store ≡ remembered S.rewritten (adds (seen S.held S.free self.old) shown.lines) (S.memory self.old.store) (seen S.held S.free self.old) shown.byte }
@@ -82,7 +82,7 @@ impl<S: Storage> Handshake<'_, S> {
         self.answer()
     }
 
-    // The cable is dropped, with this delay from now on: bytes, offers and memory stay.
+    // The cable is dropped, and as many looks as this delay are let pass before the next cell: bytes, offers and memory stay.
     pub fn drop_with(&mut self, delay: u8) -> PeriphLines
         ensures dropped { Dropped delay (seen S.held S.free self.old) (seen S.held S.free self.new) result }
         ensures memory { S.memory self.new.store ≡ S.memory self.old.store }

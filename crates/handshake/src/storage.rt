@@ -1,4 +1,4 @@
-// What the handshake needs of a make: where its bytes are kept. A make that is an inserter by itself names its delay too.
+// What the handshake needs of a make: where its bytes are kept. With a delay besides, the handshake over it is an inserter.
 ghost use Rattle.std.specs.Prelude.{◌≡◌, ℕ, min, List, length};
 ghost use Rattle.inserter.specs.Meaning.{at_place};
 ghost use Rattle.handshake.specs.Storage.{Grown};
@@ -31,7 +31,7 @@ pub trait Storage {
         ensures memory { memory self.new ≡ rewritten (memory self.old) (length (held self.old channel)) channel (min n (free self.old channel)) byte };
 }
 
-// A storage whose make has a fixed delay: how many looks it lets pass before it acknowledges a cell.
+// A storage that names a fixed delay: how many looks the handshake over it lets pass before it acknowledges a cell.
 pub trait Delayed: Storage {
     const DELAY: u8;
 

@@ -109,7 +109,7 @@ impl Storage for LaneBytes<'_> {
     }
 }
 
-// The delay of every make over such a storage.
+// The delay of the handshake over such bytes, where it is an inserter by itself.
 impl Delayed for LaneBytes<'_> {
     ghost use Rattle.std.specs.Prelude.{◌≡◌};
 

@@ -1,11 +1,8 @@
 -- The pool: what a channel holds of the records, and what a put adds.
-use Rattle.std.proofs.Common.{◌≡◌, ℕ, zero, suc, ◌+◌, ◌≤◌, leb, List, [], ◌++◌, map, length, slice_get, take, replicate, filter, sym, refl, ap, ◌∙◌, append-nil, arith}
+use Rattle.std.proofs.Common.{◌≡◌, ℕ, zero, suc, ◌+◌, ◌≤◌, leb, List, [], ◌++◌, map, length, take, replicate, filter, sym, refl, ap, ◌∙◌, append-nil, arith}
 use Rattle.std.proofs.lemmas.List.Elements.{filter-append}
 use Rattle.std.proofs.lemmas.List.{map-append}
-use Rattle.std.proofs.lemmas.Option.{slice_get_past, slice_get-get_or}
 use Rattle.std.proofs.lemmas.Bool.{cond-true, le-leb, eq-eqb, ne_eqb}
-use Rattle.std.proofs.lemmas.Bool.Decides.{nat_tests}
-use Rattle.inserter.specs.Meaning.{at_place}
 use Rattle.handshake.specs.Storage.{Grown}
 use Rattle.handshake.specs.Spread.{written, spread_out}
 use Rattle.handshake.proofs.Spreading.{length_written, joined}
@@ -24,9 +21,6 @@ module _ (c b : ℕ) where
   bytes_there : (k n : ℕ) → (k ≡ c → ⊥) → bytes_of k (replicate n (record_of c b)) ≡ []
   bytes_there k zero ne = refl
   bytes_there k (suc n) ne = simp (ne_eqb c k (λ e. ne (sym e)), bytes_there k n ne)
-
-pub at_place-slice_get : (xs : List ℕ) (i : ℕ) → slice_get xs i ≡ at_place xs i
-at_place-slice_get xs i = grind (arith, nat_tests, slice_get_past xs i, slice_get-get_or xs i 0)
 
 -- n records of channel c and byte b, where so many places are left
 module _ (xs : List Record) (used c n b : ℕ) (fits : n ≤ left xs used) where

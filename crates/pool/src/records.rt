@@ -80,7 +80,7 @@ impl Storage for PoolRecords<'_> {
     }
 }
 
-// The delay of every make over such a storage.
+// The delay of the handshake over such records, where it is an inserter by itself.
 impl Delayed for PoolRecords<'_> {
     ghost use Rattle.std.specs.Prelude.{◌≡◌};
 
